@@ -132,9 +132,13 @@ fn expand_tokens<'a>(
 ) -> Result<(), Stop> {
     let place = Place {
         name: b"\"-\"",
+        base: b"-",
         shift: 0,
+        level: 0,
+        is_system: false,
         date: *b"Jan  1 1970",
         time: *b"00:00:00",
+        timestamp: *b"Thu Jan  1 00:00:00 1970",
     };
     let mut budget = Budget::new();
     match expand(alloc, tokens, macros, 5, Mode::Plain, &place, &mut budget) {

@@ -58,7 +58,13 @@ predefined-entry s line name h =
                 (λ meter. refl),
                 (
                   (λ meter. refl),
-                  ((λ meter. decimal-number meter.counter), tt),
+                  (
+                    (λ meter. h.base),
+                    (
+                      (λ meter. decimal-number s.place.level),
+                      ((λ meter. h.timestamp), ((λ meter. decimal-number meter.counter), tt)),
+                    ),
+                  ),
                 ),
               ),
             ),

@@ -18,16 +18,24 @@ use Rattle.inc_expand.specs.declared.places.Mode.TheVariants.{Plain, Condition}
 use Rattle.inc_expand.specs.Elements.{Element, Word, Glue, Silent, StringOf, AsWritten, Expanded, Comma, elements_of}
 use Rattle.inc_expand.specs.declared.strings.TheConstants.{LONGEST}
 
--- where the tokens are: the literal for `__FILE__`, presumed minus physical line, date and time
+-- where the tokens are, and when
 pub record Place : Type 0 where
   -- the literal for `__FILE__`
   pub name : List ℕ
+  -- what `__BASE_FILE__` names: the source
+  pub base : List ℕ
   -- presumed minus physical line
   pub shift : ℤ
+  -- how many includes they are below the source
+  pub level : ℕ
+  -- whether they are those of a system header
+  pub is_system : Bool
   -- the text of `__DATE__`
   pub date : List ℕ
   -- the text of `__TIME__`
   pub time : List ℕ
+  -- the text of `__TIMESTAMP__`
+  pub timestamp : List ℕ
 
 -- what an expansion reads and never changes
 pub record Surroundings : Type 0 where
@@ -113,6 +121,11 @@ abbrev pub presumed_line : Language → Place → ℕ → ℕ
 presumed_line Gnu place line = nat_abs (pos line +ℤ place.shift) % 4_294_967_296
 presumed_line _ place line = nat_abs (pos line +ℤ place.shift)
 
+-- `\` before each `"` and `\`
+abbrev pub escaped : List ℕ → List ℕ
+escaped [] = []
+escaped (b ∷ bs) = if (b == quotation_mark) || (b == backslash) then backslash ∷ b ∷ escaped bs else b ∷ escaped bs
+
 -- bytes between double quotes
 abbrev pub in_quotes : List ℕ → List ℕ
 in_quotes text = quotation_mark ∷ text ++ quotation_mark ∷ []
@@ -134,6 +147,9 @@ predefined_tokens language place line =
     ∷ (codes "__STDC__", Number, Fixed (codes "1"))
     ∷ (codes "__STDC_HOSTED__", Number, Fixed (codes "1"))
     ∷ (codes "__STDC_VERSION__", Number, Fixed (codes "201710L"))
+    ∷ (codes "__BASE_FILE__", Str, Fixed (in_quotes (escaped place.base)))
+    ∷ (codes "__INCLUDE_LEVEL__", Number, Fixed (decimal place.level))
+    ∷ (codes "__TIMESTAMP__", Str, Fixed (in_quotes place.timestamp))
     ∷ (codes "__COUNTER__", Number, Count)
     ∷ []
 
@@ -231,11 +247,6 @@ spaced space (t ∷ ts) = record t { space = space } ∷ ts
 -- a token of a body hides nothing; its line is set when it replaces
 abbrev pub of_body : BodyToken → Carrier
 of_body b = record { kind = b.kind; spelling = b.spelling; line = 0; space = b.space; hidden = no_names }
-
--- `\` before each `"` and `\`
-abbrev pub escaped : List ℕ → List ℕ
-escaped [] = []
-escaped (b ∷ bs) = if (b == quotation_mark) || (b == backslash) then backslash ∷ b ∷ escaped bs else b ∷ escaped bs
 
 -- the spelling of a token in a string
 abbrev pub spelled_token : Carrier → List ℕ

@@ -11,7 +11,16 @@ use Rattle.inc_expand.specs.Expansion.{Content, Count, Fixed, Place, Surrounding
 use Rattle.inc_expand.specs.Carriers.{bytes_in}
 
 abbrev pub place_value : PlaceValue → Place
-place_value p = record { name = p.name.now; shift = p.shift; date = p.date; time = p.time }
+place_value p = record {
+  name = p.name.now;
+  base = p.base.now;
+  shift = p.shift;
+  level = p.level;
+  is_system = p.is_system;
+  date = p.date;
+  time = p.time;
+  timestamp = p.timestamp;
+}
 
 -- what an expansion reads: the macros, what it is for, and where the tokens are
 abbrev pub surroundings : Kept → Mode → PlaceValue → Surroundings

@@ -27,7 +27,8 @@ pub fn other_tokens_are_left_alone()
 {}
 
 /// Where the tokens that are handed in and those of the macros' bodies lie in the classes that they are said to lie in, and
-/// what `__FILE__`, `__DATE__` and `__TIME__` give are string literals, each item of an expansion lies in its class.
+/// what `__FILE__`, `__BASE_FILE__`, `__DATE__`, `__TIME__` and `__TIMESTAMP__` give are string literals, each item of an expansion lies in
+/// its class.
 pub fn items_lie_in_their_classes()
     ensures { (s : Surroundings) (meter : Meter) (tokens : List Tok) →
         HasSpelledBodies s.table → HasLiterals s.place → IsTrue (list_all is_spelled tokens) →

@@ -17,17 +17,25 @@ pub enum Mode {
     Condition,
 }
 
-/// Where tokens are, for `__FILE__`, `__LINE__`, `__DATE__` and `__TIME__` (6.10.8.1).
+/// Where tokens are, and when, for `__FILE__`, `__LINE__`, `__DATE__` and `__TIME__` (6.10.8.1) and what GNU C adds to them.
 #[derive(Clone, Copy, Debug)]
 pub struct Place<'a> {
     /// The string literal that `__FILE__` gives, with its quotes.
     pub name: &'a [u8],
+    /// The path of the source, as `__BASE_FILE__` spells it between its quotes.
+    pub base: &'a [u8],
     /// What is added to a physical line to make the presumed one.
     pub shift: i64,
+    /// How many includes the tokens are below the source.
+    pub level: u32,
+    /// Whether they are those of a system header.
+    pub is_system: bool,
     /// The day, as `Mmm dd yyyy`.
     pub date: [u8; 11],
     /// The time, as `hh:mm:ss`.
     pub time: [u8; 8],
+    /// When a file was written, as `Ddd Mmm dd hh:mm:ss yyyy`.
+    pub timestamp: [u8; 24],
 }
 
 impl<'a> Place<'a> {

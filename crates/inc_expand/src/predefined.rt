@@ -1,13 +1,14 @@
 //! Names that are always defined (ISO/IEC 9899:2018, 6.10.8).
 ghost use Rattle.std.specs.Prelude.{◌≡◌, ◌≤◌, ◌++◌, decimal, IfOk, IfErr, IfSome, OnOk, Some, option_map};
 ghost use Rattle.inc_expand.specs.Carriers.{bytes_in};
-ghost use Rattle.inc_expand.specs.Expansion.{counted, in_quotes, predefined_token, spent, text_of};
+ghost use Rattle.inc_expand.specs.Expansion.{counted, escaped, in_quotes, predefined_token, spent, text_of};
 ghost use Rattle.inc_expand.specs.Places.{content_value, place_value, predefined_value};
 
 use crate::budgets::Budget;
 use crate::carried::Bytes;
 use crate::faults::ExpandFault;
 use crate::places::Place;
+use crate::strings::push_escaped;
 use bumpalo::Bump;
 use inc_token::{Kind, Language};
 use itoa::Buffer;
@@ -45,6 +46,17 @@ fn quoted<'b>(alloc: Global, arena: &'b Bump, bytes: &[u8]) -> Result<&'b [u8], 
 {
     let mut text = Vec::from_slice(alloc, b"\"")?;
     text.extend_from_slice(bytes)?;
+    text.push(b'"')?;
+    let bytes = arena.try_alloc_slice_copy(&text)?;
+    Ok(bytes)
+}
+
+/// The string literal of a path.
+fn literal<'b>(alloc: Global, arena: &'b Bump, path: &[u8]) -> Result<&'b [u8], AllocError>
+    ensures { IfOk result (λ text. text.now ≡ in_quotes (escaped path.now)) }
+{
+    let mut text = Vec::from_slice(alloc, b"\"")?;
+    push_escaped(&mut text, path)?;
     text.push(b'"')?;
     let bytes = arena.try_alloc_slice_copy(&text)?;
     Ok(bytes)
@@ -138,6 +150,30 @@ pub(crate) fn predefined_at<'a, 'b>(
             name: b"__STDC_VERSION__",
             kind: Kind::Number,
             content: Content::Fixed(Bytes::Source(b"201710L")),
+        }));
+    }
+    if name == b"__BASE_FILE__".as_slice() {
+        let bytes = literal(alloc, arena, place.base)?;
+        return Ok(Some(Predefined {
+            name: b"__BASE_FILE__",
+            kind: Kind::Str,
+            content: Content::Fixed(Bytes::Made(bytes)),
+        }));
+    }
+    if name == b"__INCLUDE_LEVEL__".as_slice() {
+        let bytes = number(arena, u64::from(place.level))?;
+        return Ok(Some(Predefined {
+            name: b"__INCLUDE_LEVEL__",
+            kind: Kind::Number,
+            content: Content::Fixed(Bytes::Made(bytes)),
+        }));
+    }
+    if name == b"__TIMESTAMP__".as_slice() {
+        let bytes = quoted(alloc, arena, &place.timestamp)?;
+        return Ok(Some(Predefined {
+            name: b"__TIMESTAMP__",
+            kind: Kind::Str,
+            content: Content::Fixed(Bytes::Made(bytes)),
         }));
     }
     if name == b"__COUNTER__".as_slice() {

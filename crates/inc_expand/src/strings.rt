@@ -30,7 +30,7 @@ fn push_escaped_byte(text: &mut Vec<u8>, byte: u8) -> Result<(), AllocError>
 }
 
 /// Adds bytes with a `\` before each `"` and `\`.
-fn push_escaped(text: &mut Vec<u8>, bytes: &[u8]) -> Result<(), AllocError>
+pub(crate) fn push_escaped(text: &mut Vec<u8>, bytes: &[u8]) -> Result<(), AllocError>
     ensures { OnOk result (text.new.items ≡ text.old.items ++ escaped bytes.now) }
 {
     for byte in bytes {

@@ -16,20 +16,27 @@ none-among name [] h = refl
 none-among name (k ∷ ks) h =
     ap₂ (λ (a b : Bool). a || b) (false_from_ne_true _ (λ e. h.0 (ap length ((bytes_eq-Decides name k).0 e)))) (none-among name ks h.1)
 
-pub no-length : (n : ℕ) (b : Bool) → b ≡ ((n == 8) || ((n == 11) || ((n == 15) || (n == 16)))) → b ≡ false → (n ≢ 8) × (n ≢ 11) × (n ≢ 15) × (n ≢ 16)
-no-length n b is none = by (n == 8) (n == 11) (n == 15) (n == 16) refl refl refl refl (sym is ∙ none)
-  where
-    by : (x w y z : Bool) → (n == 8) ≡ x → (n == 11) ≡ w → (n == 15) ≡ y → (n == 16) ≡ z → (x || (w || (y || z))) ≡ false
-        → (n ≢ 8) × (n ≢ 11) × (n ≢ 15) × (n ≢ 16)
-    by false false false false e d f g h = (eqb-false _ _ e, eqb-false _ _ d, eqb-false _ _ f, eqb-false _ _ g)
-    by true w y z e d f g h = cc
-    by false true y z e d f g h = cc
-    by false false true z e d f g h = cc
-    by false false false true e d f g h = cc
+-- none of the lengths of predefined names
+abbrev pub IsOther : ℕ → Type 0
+IsOther n = (n ≢ 8) × (n ≢ 11) × (n ≢ 13) × (n ≢ 15) × (n ≢ 16) × (n ≢ 17)
+
+-- where one of two tests fails, both do
+neither : (x y : Bool) → (x || y) ≡ false → (x ≡ false) × (y ≡ false)
+neither false y e = (refl, e)
+neither true y e = cc
+
+pub no-length : (n : ℕ) (b : Bool) → b ≡ ((n == 8) || ((n == 11) || ((n == 13) || ((n == 15) || ((n == 16) || (n == 17)))))) → b ≡ false → IsOther n
+no-length n b is none =
+    let a = neither (n == 8) ((n == 11) || ((n == 13) || ((n == 15) || ((n == 16) || (n == 17))))) (sym is ∙ none) in
+    let c = neither (n == 11) ((n == 13) || ((n == 15) || ((n == 16) || (n == 17)))) a.1 in
+    let d = neither (n == 13) ((n == 15) || ((n == 16) || (n == 17))) c.1 in
+    let e = neither (n == 15) ((n == 16) || (n == 17)) d.1 in
+    let f = neither (n == 16) (n == 17) e.1 in
+    (eqb-false _ _ a.0, eqb-false _ _ c.0, eqb-false _ _ d.0, eqb-false _ _ e.0, eqb-false _ _ f.0, eqb-false _ _ f.1)
 
 -- no predefined name has another length
-pub other-length : (language : Language) (name : List ℕ) → (length name ≢ 8) × (length name ≢ 11) × (length name ≢ 15) × (length name ≢ 16)
-    → is_among name (predefined_names language) ≡ false
-other-length C17 name none = none-among name (predefined_names C17) (none.0, (none.0, (none.0, (none.0, (none.0, (none.2, (none.3, tt)))))))
-other-length Extended name none = none-among name (predefined_names Extended) (none.0, (none.0, (none.0, (none.0, (none.0, (none.2, (none.3, tt)))))))
-other-length Gnu name none = none-among name (predefined_names Gnu) (none.0, (none.0, (none.0, (none.0, (none.1, tt)))))
+pub other-length : (language : Language) (name : List ℕ) → IsOther (length name) → is_among name (predefined_names language) ≡ false
+other-length C17 name none = none-among name (predefined_names C17) (none.0, (none.0, (none.0, (none.0, (none.0, (none.3, (none.4, tt)))))))
+other-length Extended name none = none-among name (predefined_names Extended) (none.0, (none.0, (none.0, (none.0, (none.0, (none.3, (none.4, tt)))))))
+other-length Gnu name none =
+    none-among name (predefined_names Gnu) (none.0, (none.0, (none.0, (none.0, (none.2, (none.5, (none.2, (none.1, tt))))))))

@@ -60,10 +60,14 @@ is_among name names = list_any (bytes_eq name) names
 abbrev pub place_names : List (List ℕ)
 place_names = codes "__LINE__" ∷ codes "__FILE__" ∷ codes "__DATE__" ∷ codes "__TIME__" ∷ []
 
--- 6.10.8. In GNU C the names that say what an implementation conforms to are those of ordinary definitions, and one more
--- gives another number at each place
+-- names that GNU C adds: of the source, of how deep a file is included, of when it was written, and of a number that is another one at
+-- each place
+abbrev pub gnu_names : List (List ℕ)
+gnu_names = codes "__BASE_FILE__" ∷ codes "__INCLUDE_LEVEL__" ∷ codes "__TIMESTAMP__" ∷ codes "__COUNTER__" ∷ []
+
+-- 6.10.8. In GNU C the names that say what an implementation conforms to are those of ordinary definitions
 abbrev pub predefined_names : Language → List (List ℕ)
-predefined_names Gnu = place_names ++ codes "__COUNTER__" ∷ []
+predefined_names Gnu = place_names ++ gnu_names
 predefined_names _ = place_names ++ codes "__STDC__" ∷ codes "__STDC_HOSTED__" ∷ codes "__STDC_VERSION__" ∷ []
 
 -- __VA_ARGS__, the name of the variable arguments

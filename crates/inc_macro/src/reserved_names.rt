@@ -1,15 +1,16 @@
 //! Names that are predefined or reserved.
 ghost use Rattle.std.specs.Prelude.{◌≡◌, ◌==◌, ◌||◌};
-ghost use Rattle.inc_macro.specs.Macros.{asked_names, asks_headers, header_questions, is_among, is_reserved, place_names, predefined_names};
+ghost use Rattle.inc_macro.specs.Macros.{asked_names, asks_headers, gnu_names, header_questions, is_among, is_reserved, place_names, predefined_names};
 
 use inc_token::Language;
 
 /// Whether a predefined macro has a name of this length: that test is all that most names cost.
 #[inline(always)]
 fn is_predefined_length(length: usize) -> bool
-    ensures { result ≡ ((length == 8) || ((length == 11) || ((length == 15) || (length == 16)))) }
+    ensures { result ≡ ((length == 8) || ((length == 11) || ((length == 13) || ((length == 15)
+        || ((length == 16) || (length == 17)))))) }
 {
-    length == 8 || length == 11 || length == 15 || length == 16
+    length == 8 || length == 11 || length == 13 || length == 15 || length == 16 || length == 17
 }
 
 /// Whether a name is that of a predefined macro (ISO/IEC 9899:2018, 6.10.8).
@@ -29,7 +30,7 @@ fn is_listed(language: Language, name: &[u8]) -> bool
 {
     match language {
         Language::C17 | Language::Extended => is_place(name) || is_conformance(name),
-        Language::Gnu => is_place(name) || name == b"__COUNTER__".as_slice(),
+        Language::Gnu => is_place(name) || is_gnu_name(name),
     }
 }
 
@@ -41,6 +42,16 @@ fn is_place(name: &[u8]) -> bool
         || name == b"__FILE__".as_slice()
         || name == b"__DATE__".as_slice()
         || name == b"__TIME__".as_slice()
+}
+
+/// Whether a name is one of those that GNU C adds.
+fn is_gnu_name(name: &[u8]) -> bool
+    ensures { result ≡ is_among name.now gnu_names }
+{
+    name == b"__BASE_FILE__".as_slice()
+        || name == b"__INCLUDE_LEVEL__".as_slice()
+        || name == b"__TIMESTAMP__".as_slice()
+        || name == b"__COUNTER__".as_slice()
 }
 
 /// Whether a name says what an implementation conforms to.

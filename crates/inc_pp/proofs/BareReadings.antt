@@ -1,6 +1,6 @@
 -- A preprocessing reads bare trees as it reads the trees, and of a project it sees the settings, the paths and the
 -- trees.
-use Rattle.std.proofs.Common.{◌≡◌, ℕ, Bool, true, false, List, Option, Some, None, Result, Ok, Err, refl, sym, ap, ◌∙◌}
+use Rattle.std.proofs.Common.{◌≡◌, ℕ, Bool, true, false, List, Option, Some, None, Result, Ok, Err, option_map, refl, sym, ap, ◌∙◌}
 use Rattle.inc_token.specs.declared.kinds.IncludeName.{IncludeName}
 use Rattle.inc_directive.specs.Groups.{FileLine, Group, Empty, Run, Control, Section, Branches, Branch, Otherwise, Close}
 use Rattle.inc_directive.specs.LineKinds.{LineKind, Text, Include, Other, Target, Quoted, line_of_tokens, search_after}
@@ -16,12 +16,12 @@ use Rattle.inc_pp.specs.declared.causes.Cause.{Cause}
 use Rattle.inc_pp.specs.declared.causes.Cause.TheVariants as cause
 use Rattle.inc_pp.specs.Directives.{changed, control_of}
 use Rattle.inc_pp.specs.Files.{FileFault}
-use Rattle.inc_pp.specs.Includes.{Header, header_of, include_target, included, led_to}
+use Rattle.inc_pp.specs.Includes.{Header, entry_in, header_of, include_target, included, led_to}
 use Rattle.inc_pp.specs.Preprocessing.{group_read, section_read, tree_read}
 use Rattle.inc_pp.specs.Runs.{run_put, run_read, with_meter}
 use Rattle.inc_pp.specs.Sections.{condition_of, if_true, is_taken, is_true, operands}
 use Rattle.inc_pp.specs.Settings.{Settings}
-use Rattle.inc_pp.specs.Tasks.{File, State, Here, Halt, Deeper, caused, halting, place_of}
+use Rattle.inc_pp.specs.Tasks.{File, State, Entry, Here, Halt, Deeper, caused, halting, place_of}
 use Rattle.inc_pp.proofs.BareTrees.{bare, bare_branches, bare_run, unplaced, run_bare}
 
 -- the same of two files that differ in their task
@@ -96,16 +96,21 @@ module _ (settings : Settings) (one two : Listing) (without others : List Direct
   abbrev named : IncludeName → Layout → Header → Option Found
   named n layout header = found_place layout (path_at layout at.file) header.form (search_after n at.next) header.name
 
-  abbrev found : IncludeName → File → Layout → Header × State → Result (Option Found × State) Cause
-  found n k layout r = led_to n k r.1 (named n layout r.0)
+  -- how what was found is read
+  abbrev entering : Layout → Here → List ℕ → Option Found × State → Result (Option Entry × State) Cause
+  entering layout h name q = Ok (option_map (entry_in layout settings at.file h name) q.0, q.1)
+
+  abbrev found : IncludeName → File → Here → Layout → Header × State → Result (Option Entry × State) Cause
+  found n k h layout r = led_to n k r.1 (named n layout r.0) >>= entering layout h r.0.name
 
   target_same : (n : IncludeName) (target : Target) (l : FileLine) (s : State) (h : Here)
       → include_target n target f l s h ≡ include_target n target g (unplaced l) s h
   target_same n target l s h =
-      ap (λ (r : Result (Header × State) Cause). r >>= found n f (layout_of one)) (header_same target l s h)
-      ∙ ap (λ (layout : Layout). header_of target g (unplaced l) s h >>= found n f layout) layouts
-      ∙ then_same (header_of target g (unplaced l) s h) (found n f (layout_of two)) (found n g (layout_of two))
-      (λ r. led_same n r.1 (named n (layout_of two) r.0))
+      ap (λ (r : Result (Header × State) Cause). r >>= found n f h (layout_of one)) (header_same target l s h)
+      ∙ ap (λ (layout : Layout). header_of target g (unplaced l) s h >>= found n f h layout) layouts
+      ∙ then_same (header_of target g (unplaced l) s h) (found n f h (layout_of two)) (found n g h (layout_of two))
+      (λ r. ap (λ (x : Result (Option Found × State) Cause). x >>= entering (layout_of two) h r.0.name)
+      (led_same n r.1 (named n (layout_of two) r.0)))
 
   changed_same : (k : DirectiveKind) (l : FileLine) (s : State) (h : Here)
       → changed k f l s h ≡ changed k g (unplaced l) s h
@@ -115,7 +120,7 @@ module _ (settings : Settings) (one two : Listing) (without others : List Direct
   control_same : (k : LineKind) (l : FileLine) (s : State) (h : Here)
       → control_of k f l s h ≡ control_of k g (unplaced l) s h
   control_same (Include n target) l s h =
-      ap (λ (r : Result (Option Found × State) Halt). r >>= λ x. included deeper x.0 x.1 h)
+      ap (λ (r : Result (Option Entry × State) Halt). r >>= λ x. included deeper x.0 x.1 h)
       (halting_same f g refl (line_of_tokens l.tokens) s (include_target n target f l s h)
       ∙ ap (halting g (line_of_tokens l.tokens) s) (target_same n target l s h))
   control_same Text l s h = refl

@@ -13,16 +13,15 @@ use Rattle.inc_directive.specs.declared.sections.BalanceFault.{BalanceFault}
 use Rattle.inc_directive.specs.Groups.{Group, Ending, file_tree, whole}
 use Rattle.inc_directive.specs.Removal.{is_removed, with_removed}
 use Rattle.inc_lookup.specs.declared.projects.DirectiveId.{DirectiveId}
-use Rattle.inc_lookup.specs.declared.projects.Found.{Found}
 use Rattle.inc_lookup.specs.DirectiveLists.{is_listed}
-use Rattle.inc_lookup.specs.Projects.{File as SourceFile, Listing, bytes_at, layout_of, paths_of}
+use Rattle.inc_lookup.specs.Projects.{Layout, File as SourceFile, Listing, bytes_at, layout_of, paths_of}
 use Rattle.inc_macro.specs.Macros.{no_macros}
 use Rattle.inc_macro.specs.Results.{◌>>=◌}
 use Rattle.inc_pp.specs.BlankedProjects.{BlankingIsRemoval, BlankingSomeIsRemoval, blanked_files, blanked_listing}
 use Rattle.inc_pp.specs.Files.{FileFault, lines_or_fault, of_balance, text_tree, tree_of, tree_of_lines}
-use Rattle.inc_pp.specs.Preprocessing.{file_read, most_depth, outcome_of, preprocessing, reading, tree_read, with_read, with_words}
+use Rattle.inc_pp.specs.Preprocessing.{file_read, most_depth, outcome_of, preprocessing, reading, tree_read, with_read, with_words, named_settings, source_read}
 use Rattle.inc_pp.specs.Settings.{Settings}
-use Rattle.inc_pp.specs.Tasks.{Deeper, Halt, State, Task, begun, source_at, start}
+use Rattle.inc_pp.specs.Tasks.{Deeper, Halt, State, Entry, Task, begun, source_at, start}
 use Rattle.inc_pp.proofs.BareReadings.{bare_result, then_same, tree_same}
 use Rattle.inc_pp.proofs.BareTrees.{bare_lines, bare_tree, lines_replaced, tree_bare}
 
@@ -105,33 +104,38 @@ module _ (settings : Settings) (listing : Listing) (without others : List Direct
       ∙ ap (λ (removed : ℕ → Bool). bare_result (text_tree settings.language removed
       (phase_text (bytes_at listing i)))) (sym (listed i))
 
-  file_same : (deeper : Deeper) (at : Found) (s : State) → file_read new deeper at s ≡ file_read old deeper at s
-  file_same deeper at s =
-      tree_same settings blank blank others others refl at deeper (tree_of settings.language blank others at.file)
-      (with_read at.file s)
-      (start (layout_of blank) at.file)
-      ∙ ap (λ r. tree_read (record { task = new; index = at.file; next = at.next; deeper = deeper }) r
-      (with_read at.file s) (start (layout_of blank) at.file)) (tree_blanked at.file)
-      ∙ sym (tree_same settings listing blank (without ++ others) others layouts at deeper
-      (tree_of settings.language listing (without ++ others) at.file) (with_read at.file s)
-      (start (layout_of blank) at.file))
-      ∙ ap (λ layout. tree_read (record { task = old; index = at.file; next = at.next; deeper = deeper })
-      (tree_of settings.language listing (without ++ others) at.file) (with_read at.file s) (start layout at.file))
+  file_same : (deeper : Deeper) (to : Entry) (s : State) → file_read new deeper to s ≡ file_read old deeper to s
+  file_same deeper to s =
+      tree_same settings blank blank others others refl to.at deeper (tree_of settings.language blank others to.at.file)
+      (with_read to.at.file s)
+      (start (layout_of blank) to)
+      ∙ ap (λ r. tree_read (record { task = new; index = to.at.file; next = to.at.next; deeper = deeper }) r
+      (with_read to.at.file s) (start (layout_of blank) to)) (tree_blanked to.at.file)
+      ∙ sym (tree_same settings listing blank (without ++ others) others layouts to.at deeper
+      (tree_of settings.language listing (without ++ others) to.at.file) (with_read to.at.file s)
+      (start (layout_of blank) to))
+      ∙ ap (λ layout. tree_read (record { task = old; index = to.at.file; next = to.at.next; deeper = deeper })
+      (tree_of settings.language listing (without ++ others) to.at.file) (with_read to.at.file s) (start layout to))
       (sym layouts)
 
-  reading_same : (left : ℕ) (at : Found) (s : State) → reading left new at s ≡ reading left old at s
-  reading_same zero at s = file_same None at s
-  reading_same (suc left) at s =
-      ap (λ (read : Found → State → Result State Halt). file_read new (Some read) at s)
-      (fun_ext λ to. fun_ext λ t. reading_same left to t)
-      ∙ file_same (Some (reading left old)) at s
+  reading_same : (left : ℕ) (to : Entry) (s : State) → reading left new to s ≡ reading left old to s
+  reading_same zero to s = file_same None to s
+  reading_same (suc left) to s =
+      ap (λ (read : Entry → State → Result State Halt). file_read new (Some read) to s)
+      (fun_ext λ e. fun_ext λ t. reading_same left e t)
+      ∙ file_same (Some (reading left old)) to s
 
 pub blanking-some : BlankingSomeIsRemoval
 blanking-some listing source words settings without others =
+    let blanked = blanked_listing settings.language listing without in
+    let named = named_settings (layout_of listing) source settings in
     then_same (with_words 0 words (no_macros settings.language))
-    (λ table. Ok (outcome_of (reading most_depth (new settings listing without others) (source_at source) (begun table))))
-    (λ table. Ok (outcome_of (reading most_depth (old settings listing without others) (source_at source) (begun table))))
-    (λ table. ap (λ r. Ok (outcome_of r)) (reading_same settings listing without others most_depth (source_at source)
+    (λ table. Ok (outcome_of (source_read blanked source (named_settings (layout_of blanked) source settings) others (begun table))))
+    (λ table. Ok (outcome_of (source_read listing source named (without ++ others) (begun table))))
+    (λ table.
+    ap (λ (l : Layout). Ok (outcome_of (source_read blanked source (named_settings l source settings) others (begun table))))
+    (sym (layouts settings listing without others))
+    ∙ ap (λ r. Ok (outcome_of r)) (reading_same named listing without others most_depth (source_at named source)
     (begun table)))
 
 pub blanking-is-removal : BlankingIsRemoval

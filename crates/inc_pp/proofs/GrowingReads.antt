@@ -20,7 +20,7 @@ use Rattle.inc_pp.specs.Includes.{Header, after_found, found_from, header_of, in
 use Rattle.inc_pp.specs.Preprocessing.{group_read, section_read, tree_read, file_read, reading, most_depth, outcome_of, with_read}
 use Rattle.inc_pp.specs.Runs.{expanded, run_put, run_read}
 use Rattle.inc_pp.specs.Sections.{condition_of, operands}
-use Rattle.inc_pp.specs.Tasks.{Task, State, Here, Halt, Deeper, File, layout_in, start}
+use Rattle.inc_pp.specs.Tasks.{Task, State, Entry, Here, Halt, Deeper, File, layout_in, start}
 use Rattle.inc_pp.specs.Walks.{Held, all_read, deeper_at, ending_read, file_at, lines_read, parts_in, open_read}
 use Rattle.inc_pp.proofs.KeptSteps.{Keeps, keeps_ok, keeps_err, keeps_after, keeps_then, Holds, holds_ok, holds_then, holds_halting}
 
@@ -99,15 +99,15 @@ module _ (before : List ℕ) where
   header_on Nothing f l s h n = keeps_err
   header_on target f l s h n = keeps_then (expanded_on f h s (operands l) n) (λ r k. keeps_after _ (λ header. keeps_ok k))
 
-  target_on : (m : IncludeName) (target : Target) (f : File) (l : FileLine) (s : State) (h : Here) → IsOn s → Keeps (IsOnAfter (Option Found)) (include_target m target f l s h)
-  target_on m target f l s h n = keeps_then (header_on target f l s h n) (named_on m f)
+  target_on : (m : IncludeName) (target : Target) (f : File) (l : FileLine) (s : State) (h : Here) → IsOn s → Keeps (IsOnAfter (Option Entry)) (include_target m target f l s h)
+  target_on m target f l s h n = keeps_then (header_on target f l s h n) (λ r k. keeps_then (named_on m f r k) (λ q i. keeps_ok i))
 
   -- what is included, if it may be, reads on
   abbrev IsDeeperOn : Deeper → Type 0
-  IsDeeperOn deeper = IfSome deeper (λ read. (at : Found) (s : State) → IsOn s → Holds IsOn IsOn (read at s))
+  IsDeeperOn deeper = IfSome deeper (λ read. (to : Entry) (s : State) → IsOn s → Holds IsOn IsOn (read to s))
 
-  included_on : (deeper : Deeper) (o : Option Found) (s : State) (h : Here) → IsDeeperOn deeper → IsOn s → Holds IsOnHere IsOn (included deeper o s h)
-  included_on (Some read) (Some at) s h d n = holds_then (d at s n) (λ after k. holds_ok k)
+  included_on : (deeper : Deeper) (o : Option Entry) (s : State) (h : Here) → IsDeeperOn deeper → IsOn s → Holds IsOnHere IsOn (included deeper o s h)
+  included_on (Some read) (Some to) s h d n = holds_then (d to s n) (λ after k. holds_ok k)
   included_on (Some read) None s h d n = holds_ok n
   included_on None o s h d n = holds_ok n
 
@@ -156,18 +156,18 @@ module _ (before : List ℕ) where
 
   module _ (t : Task) where
     -- a file that was added to the reads is read on, and what it includes with it
-    entered_on : (deeper : Deeper) (at : Found) (s : State) → IsDeeperOn deeper → IsOn (with_read at.file s) → Holds IsOn IsOn (file_read t deeper at s)
-    entered_on deeper at s d n =
-        tree_on (record { task = t; index = at.file; next = at.next; deeper = deeper }) (tree_of t.settings.language t.listing t.without at.file)
-        (with_read at.file s) (start (layout_in t) at.file) d n
+    entered_on : (deeper : Deeper) (to : Entry) (s : State) → IsDeeperOn deeper → IsOn (with_read to.at.file s) → Holds IsOn IsOn (file_read t deeper to s)
+    entered_on deeper to s d n =
+        tree_on (record { task = t; index = to.at.file; next = to.at.next; deeper = deeper }) (tree_of t.settings.language t.listing t.without to.at.file)
+        (with_read to.at.file s) (start (layout_in t) to) d n
 
-    reading_on : (left : ℕ) (at : Found) (s : State) → IsOn (with_read at.file s) → Holds IsOn IsOn (reading left t at s)
-    reading_on zero at s n = entered_on None at s tt n
-    reading_on (suc left) at s n = entered_on (Some (reading left t)) at s (λ to u k. reading_on left to u (with_one to.file u k)) n
+    reading_on : (left : ℕ) (to : Entry) (s : State) → IsOn (with_read to.at.file s) → Holds IsOn IsOn (reading left t to s)
+    reading_on zero to s n = entered_on None to s tt n
+    reading_on (suc left) to s n = entered_on (Some (reading left t)) to s (λ e u k. reading_on left e u (with_one e.at.file u k)) n
 
     deeper_on : (left : ℕ) → IsDeeperOn (deeper_at t left)
     deeper_on zero = tt
-    deeper_on (suc left) = λ to u k. reading_on left to u (with_one to.file u k)
+    deeper_on (suc left) = λ e u k. reading_on left e u (with_one e.at.file u k)
 
     open_on : (held : Held) (o : Frame) (depth : ℕ) (s : State) → IsOn s → Holds IsOn IsOn (open_read t held o depth s)
     open_on held o depth s n =
@@ -196,20 +196,20 @@ behind : (before : List ℕ) (file : ℕ) (r : Result State Halt) → Grows (bef
 behind before file r g = (g.0, g.1 ∙ append_assoc before (file ∷ []) g.0)
 
 -- a file that is read comes next among the reads
-pub grows-reading : (t : Task) (left : ℕ) (at : Found) (s : State) → (more : List ℕ) × (reads_of (reading left t at s) ≡ s.reads ++ at.file ∷ more)
-grows-reading t left at s =
-    let before = s.reads ++ (at.file ∷ []) in
-    behind s.reads at.file (reading left t at s) (grown before (reading left t at s) (reading_on before t left at s (begins_same before)))
+pub grows-reading : (t : Task) (left : ℕ) (to : Entry) (s : State) → (more : List ℕ) × (reads_of (reading left t to s) ≡ s.reads ++ to.at.file ∷ more)
+grows-reading t left to s =
+    let before = s.reads ++ (to.at.file ∷ []) in
+    behind s.reads to.at.file (reading left t to s) (grown before (reading left t to s) (reading_on before t left to s (begins_same before)))
 
 -- what is left of all files that are being read adds to the reads
 pub grows-all : (t : Task) (held : Held) (os : List Frame) (s : State) → Grows s.reads (all_read t held os (Ok s))
 grows-all t held os s = grown s.reads (all_read t held os (Ok s)) (all_on s.reads t held os (Ok s) (holds_ok (begins_same s.reads)))
 
 -- so it does where a file is read first
-pub grows-entering : (t : Task) (held : Held) (os : List Frame) (left : ℕ) (at : Found) (s : State)
-    → (more : List ℕ) × (reads_of (all_read t held os (file_read t (deeper_at t left) at s)) ≡ s.reads ++ at.file ∷ more)
-grows-entering t held os left at s =
-    let before = s.reads ++ (at.file ∷ []) in
-    let r = file_read t (deeper_at t left) at s in
-    behind s.reads at.file (all_read t held os r)
-    (grown before (all_read t held os r) (all_on before t held os r (entered_on before t (deeper_at t left) at s (deeper_on before t left) (begins_same before))))
+pub grows-entering : (t : Task) (held : Held) (os : List Frame) (left : ℕ) (to : Entry) (s : State)
+    → (more : List ℕ) × (reads_of (all_read t held os (file_read t (deeper_at t left) to s)) ≡ s.reads ++ to.at.file ∷ more)
+grows-entering t held os left to s =
+    let before = s.reads ++ (to.at.file ∷ []) in
+    let r = file_read t (deeper_at t left) to s in
+    behind s.reads to.at.file (all_read t held os r)
+    (grown before (all_read t held os r) (all_on before t held os r (entered_on before t (deeper_at t left) to s (deeper_on before t left) (begins_same before))))

@@ -27,3 +27,4 @@ pub mod BlankRuns
 pub mod GuardSteps
 mod MemoryStops
 pub mod NamedIncludes
+pub mod PathFronts

@@ -20,7 +20,7 @@ use Rattle.inc_directive.proofs.MemoryFaults.{trees_have}
 use Rattle.inc_lookup.specs.declared.projects.DirectiveId.{DirectiveId}
 use Rattle.inc_lookup.specs.declared.projects.Found.{Found}
 use Rattle.inc_lookup.specs.DirectiveLists.{is_listed}
-use Rattle.inc_lookup.specs.Projects.{Listing, bytes_at}
+use Rattle.inc_lookup.specs.Projects.{Listing, bytes_at, layout_of}
 use Rattle.inc_macro.specs.declared.faults.DefineFault.{DefineFault}
 use Rattle.inc_macro.specs.declared.faults.DefineFault.TheVariants as define
 use Rattle.inc_macro.specs.Macros.{Table, define, define_word, is_identifier_kind, no_macros, undef, with_words}
@@ -38,14 +38,14 @@ use Rattle.inc_pp.specs.declared.settings.Missing.{Missing}
 use Rattle.inc_pp.specs.declared.settings.Missing.TheVariants as missing
 use Rattle.inc_pp.specs.Directives.{changed, control_of, counted, line_operands, renumbered}
 use Rattle.inc_pp.specs.Files.{FileFault, lines_or_fault, of_balance, text_tree, tree_of, tree_of_lines}
-use Rattle.inc_pp.specs.Includes.{found_from, header_in, header_of, include_target, included, is_done, most_reads, not_found, wanted}
+use Rattle.inc_pp.specs.Includes.{found_from, header_in, header_of, include_target, included, is_done, led_to, most_reads, not_found, wanted}
 use Rattle.inc_pp.specs.MemoryCauses.{IsNotMemory}
 use Rattle.inc_pp.specs.Pragmas.{Laid, after_literal, after_name, after_open, before, is_operator, laid, plain, pragma_line, pragma_text, pragma_tokens, tokens_or_bad, where_fits}
-use Rattle.inc_pp.specs.Preprocessing.{group_read, section_read, tree_read, file_read, reading, most_depth, outcome_of, preprocessing, with_read}
+use Rattle.inc_pp.specs.Preprocessing.{group_read, section_read, tree_read, file_read, reading, most_depth, outcome_of, preprocessing, with_read, named_settings, source_read}
 use Rattle.inc_pp.specs.Runs.{expanded, marks_in, run_put, run_read}
 use Rattle.inc_pp.specs.Sections.{condition_of, first_name, if_defined, if_not_defined, if_true, is_taken, operands}
 use Rattle.inc_pp.specs.Settings.{Settings}
-use Rattle.inc_pp.specs.Tasks.{Task, State, Here, Halt, Deeper, File, begun, caused, halting, layout_in, place_of, search_of, source_at, start}
+use Rattle.inc_pp.specs.Tasks.{Task, State, Entry, Here, Halt, Deeper, File, begun, caused, halting, layout_in, place_of, search_of, source_at, start}
 
 abbrev Has : {A : Type 0} → Result A Cause → Type 0
 Has r = IfErr r IsNotMemory
@@ -249,19 +249,22 @@ wanted_has : (n : IncludeName) (f : File) (s : State) (found : Option Found) →
 wanted_has n f s None = not_found_has f.task.settings.missing
 wanted_has n f s (Some at) = if_once (is_done n s at.file) _ (deeper_has f.deeper s at)
 
+led_has : (n : IncludeName) (f : File) (s : State) (found : Option Found) → Has (led_to n f s found)
+led_has n f s found = then_has (wanted n f s found) _ (wanted_has n f s found) (λ at. tt)
+
 target_has : (n : IncludeName) (target : Target) (f : File) (l : FileLine) (s : State) (h : Here) → Has (include_target n target f l s h)
 target_has n target f l s h =
     then_has (header_of target f l s h) _ (header_has target f l s h) (λ r.
-    then_has (wanted n f r.1 (found_from f n r.0)) _ (wanted_has n f r.1 (found_from f n r.0)) (λ at. tt))
+    then_has (led_to n f r.1 (found_from f n r.0)) _ (led_has n f r.1 (found_from f n r.0)) (λ q. tt))
 
 ---- files that are read
 
 -- how deeper files are read
 abbrev DeeperHas : Deeper → Type 0
-DeeperHas deeper = IfSome deeper (λ read. (at : Found) (s : State) → Halts (read at s))
+DeeperHas deeper = IfSome deeper (λ read. (to : Entry) (s : State) → Halts (read to s))
 
-included_has : (deeper : Deeper) (o : Option Found) (s : State) (h : Here) → DeeperHas deeper → Halts (included deeper o s h)
-included_has (Some read) (Some at) s h d = then_halts (read at s) _ (d at s) (λ after. tt)
+included_has : (deeper : Deeper) (o : Option Entry) (s : State) (h : Here) → DeeperHas deeper → Halts (included deeper o s h)
+included_has (Some read) (Some to) s h d = then_halts (read to s) _ (d to s) (λ after. tt)
 included_has (Some read) None s h d = tt
 included_has None o s h d = tt
 
@@ -294,15 +297,15 @@ tree_has : (f : File) (r : Result Group FileFault) (s : State) (h : Here) → De
 tree_has f (Ok g) s h d k = then_halts (group_read f g s h) _ (group_has f g s h d) (λ r. tt)
 tree_has f (Err fault) s h d k = k
 
-file_has : (t : Task) (deeper : Deeper) (at : Found) (s : State) → DeeperHas deeper → Halts (file_read t deeper at s)
-file_has t deeper at s d =
-    tree_has (record { task = t; index = at.file; next = at.next; deeper = deeper }) (tree_of t.settings.language t.listing t.without at.file)
-    (with_read at.file s) (start (layout_in t) at.file) d
-    (text_has t.settings.language (is_listed t.without at.file) (phase_text (bytes_at t.listing at.file)))
+file_has : (t : Task) (deeper : Deeper) (to : Entry) (s : State) → DeeperHas deeper → Halts (file_read t deeper to s)
+file_has t deeper to s d =
+    tree_has (record { task = t; index = to.at.file; next = to.at.next; deeper = deeper }) (tree_of t.settings.language t.listing t.without to.at.file)
+    (with_read to.at.file s) (start (layout_in t) to) d
+    (text_has t.settings.language (is_listed t.without to.at.file) (phase_text (bytes_at t.listing to.at.file)))
 
-reading_has : (left : ℕ) (t : Task) (at : Found) (s : State) → Halts (reading left t at s)
-reading_has zero t at s = file_has t None at s tt
-reading_has (suc left) t at s = file_has t (Some (reading left t)) at s (reading_has left t)
+reading_has : (left : ℕ) (t : Task) (to : Entry) (s : State) → Halts (reading left t to s)
+reading_has zero t to s = file_has t None to s tt
+reading_has (suc left) t to s = file_has t (Some (reading left t)) to s (reading_has left t)
 
 outcome_has : (r : Result State Halt) → Halts r → IfSome (outcome_of r).stop (λ stop. IsNotMemory stop.cause)
 outcome_has (Ok s) h = tt
@@ -330,15 +333,21 @@ if_no_table (Ok a) f P h = tt
 if_no_table (Err e) f P h = h
 
 module _ (listing : Listing) (source : ℕ) (words : List (List ℕ)) (settings : Settings) (without : List DirectiveId) where
-  abbrev task : Task
-  task = record { listing = listing; settings = settings; without = without }
+  -- the source is read so
+  abbrev read : Table → Result State Halt
+  read table = source_read listing source (named_settings (layout_of listing) source settings) without (begun table)
+
+  read_has : (table : Table) → Halts (read table)
+  read_has table =
+      let named = named_settings (layout_of listing) source settings in
+      reading_has most_depth (record { listing = listing; settings = named; without = without }) (source_at named source) (begun table)
 
   pub stops_have : IfOk (preprocessing listing source words settings without) (λ o. IfSome o.stop (λ stop. IsNotMemory stop.cause))
   stops_have =
-      if_table (with_words 0 words (no_macros settings.language)) (λ table. outcome_of (reading most_depth task (source_at source) (begun table))) (λ o. IfSome o.stop (λ stop. IsNotMemory stop.cause))
-      (λ table. outcome_has (reading most_depth task (source_at source) (begun table)) (reading_has most_depth task (source_at source) (begun table)))
+      if_table (with_words 0 words (no_macros settings.language)) (λ table. outcome_of (read table)) (λ o. IfSome o.stop (λ stop. IsNotMemory stop.cause))
+      (λ table. outcome_has (read table) (read_has table))
 
   pub refusals_have : IfErr (preprocessing listing source words settings without) (λ refusal. refusal.1 ≢ define.NoMemory)
   refusals_have =
-      if_no_table (with_words 0 words (no_macros settings.language)) (λ table. outcome_of (reading most_depth task (source_at source) (begun table))) (λ refusal. refusal.1 ≢ define.NoMemory)
+      if_no_table (with_words 0 words (no_macros settings.language)) (λ table. outcome_of (read table)) (λ refusal. refusal.1 ≢ define.NoMemory)
       (words_have 0 words (no_macros settings.language))

@@ -14,7 +14,7 @@ use Rattle.inc_pp.specs.Files.{FileFault, tree_of}
 use Rattle.inc_pp.specs.Includes.{included}
 use Rattle.inc_pp.specs.Preprocessing.{group_read, tree_read, with_read, file_read, most_depth, reading}
 use Rattle.inc_pp.specs.Stops.{halt_at, IsIn}
-use Rattle.inc_pp.specs.Tasks.{Task, File, State, Here, Halt, layout_in, start}
+use Rattle.inc_pp.specs.Tasks.{Task, File, State, Entry, Here, Halt, layout_in, start}
 use Rattle.inc_pp.specs.WalkJobs.{first_frame}
 use Rattle.inc_pp.specs.Walks.{ending_read, lines_read, Held, held_at, parts_in, deeper_at, file_at, open_read, all_read}
 use Rattle.inc_pp.proofs.Walking.{then_then, then_ap}
@@ -68,24 +68,24 @@ at_depth depth = by (nat_lt depth most_depth) refl
 pub is_in : (t : Task) (at : Found) (depth : ℕ) → IsIn (layout_in t) t.settings at (nat_lt depth most_depth) (file_at t at depth)
 is_in t at depth = record { under = refl; laid = refl; at = refl; next = refl; deeper = nests_at t (most_depth - depth) ∙ at_depth depth }
 
-pub read_at : (t : Task) (left : ℕ) (at : Found) (s : State) → reading left t at s ≡ file_read t (deeper_at t left) at s
-read_at t zero at s = refl
-read_at t (suc left) at s = refl
+pub read_at : (t : Task) (left : ℕ) (to : Entry) (s : State) → reading left t to s ≡ file_read t (deeper_at t left) to s
+read_at t zero to s = refl
+read_at t (suc left) to s = refl
 
 -- an include directive that leads to a file
-pub all-enter : (t : Task) (held : Held) (o o' : Frame) (os : List Frame) (s s' : State) (at : Found)
+pub all-enter : (t : Task) (held : Held) (o o' : Frame) (os : List Frame) (s s' : State) (to : Entry)
     → length os < most_depth → o'.at ≡ o.at
     → lines_read (file_at t o.at (length os)) (lines_from o.part (parts_in held o.at.file)) s o.here
-    ≡ (included (deeper_at t (most_depth - length os)) (Some at) s' o'.here
+    ≡ (included (deeper_at t (most_depth - length os)) (Some to) s' o'.here
     >>= λ r. lines_read (file_at t o.at (length os)) (lines_from o'.part (parts_in held o.at.file)) r.0 r.1)
     → all_read t held (o ∷ os) (Ok s)
-    ≡ all_read t held (o' ∷ os) (file_read t (deeper_at t (most_depth - suc (length os))) at s')
-all-enter t held o o' os s s' at low same e =
+    ≡ all_read t held (o' ∷ os) (file_read t (deeper_at t (most_depth - suc (length os))) to s')
+all-enter t held o o' os s s' to low same e =
     all-same t held os _ _
-    (ap (λ r. r >>= λ x. Ok x.0) e ∙ ap (λ d. (included d (Some at) s' o'.here >>= onward) >>= λ x. Ok x.0) (deeper-is (most_depth - length os) (most_depth - suc (length os)) (omega (arith, low)))
-    ∙ through (reading (most_depth - suc (length os)) t at s')
-    ∙ ap (λ r. r >>= λ a. onward (a, o'.here) >>= λ x. Ok x.0) (read_at t (most_depth - suc (length os)) at s')
-    ∙ ap (λ (k : Found). file_read t (deeper_at t (most_depth - suc (length os))) at s' >>= λ a. lines_read (file_at t k (length os)) (lines_from o'.part (parts_in held k.file)) a o'.here >>= λ x. Ok x.0) (sym same))
+    (ap (λ r. r >>= λ x. Ok x.0) e ∙ ap (λ d. (included d (Some to) s' o'.here >>= onward) >>= λ x. Ok x.0) (deeper-is (most_depth - length os) (most_depth - suc (length os)) (omega (arith, low)))
+    ∙ through (reading (most_depth - suc (length os)) t to s')
+    ∙ ap (λ r. r >>= λ a. onward (a, o'.here) >>= λ x. Ok x.0) (read_at t (most_depth - suc (length os)) to s')
+    ∙ ap (λ (k : Found). file_read t (deeper_at t (most_depth - suc (length os))) to s' >>= λ a. lines_read (file_at t k (length os)) (lines_from o'.part (parts_in held k.file)) a o'.here >>= λ x. Ok x.0) (sym same))
   where
     onward : State × Here → Result (State × Here) Halt
     onward r = lines_read (file_at t o.at (length os)) (lines_from o'.part (parts_in held o.at.file)) r.0 r.1
@@ -122,25 +122,25 @@ tree_from f ls g s h is =
     ∙ then_then (group_read f g s h) (λ r. Ok (r.0, r.1)) (λ r. Ok r.0))
 
 -- a file that is held is entered
-pub all-entered : (t : Task) (held : Held) (os : List Frame) (at : Found) (depth : ℕ) (ls : List FilePart) (g : Group) (s : State) (new : Frame)
-    → depth ≡ length os → held_at held at.file ≡ Some ls → group_tree (lines_of_parts ls) ≡ Ok g → tree_of t.settings.language t.listing t.without at.file ≡ Ok g
-    → new ≡ first_frame (layout_in t) at
-    → all_read t held os (file_read t (deeper_at t (most_depth - depth)) at s) ≡ all_read t held (new ∷ os) (Ok (with_read at.file s))
-all-entered t held os at depth ls g s new deep there tree same is =
+pub all-entered : (t : Task) (held : Held) (os : List Frame) (to : Entry) (depth : ℕ) (ls : List FilePart) (g : Group) (s : State) (new : Frame)
+    → depth ≡ length os → held_at held to.at.file ≡ Some ls → group_tree (lines_of_parts ls) ≡ Ok g → tree_of t.settings.language t.listing t.without to.at.file ≡ Ok g
+    → new ≡ first_frame (layout_in t) to
+    → all_read t held os (file_read t (deeper_at t (most_depth - depth)) to s) ≡ all_read t held (new ∷ os) (Ok (with_read to.at.file s))
+all-entered t held os to depth ls g s new deep there tree same is =
     all-same t held os _ _
-    (ap (λ r. tree_read (file_at t at depth) r (with_read at.file s) (start (layout_in t) at.file)) same
-    ∙ tree_from (file_at t at depth) (lines_of_parts ls) g (with_read at.file s) (start (layout_in t) at.file) tree
-    ∙ ap (λ k. lines_read (file_at t at k) (lines_of_parts ls) (with_read at.file s) (start (layout_in t) at.file) >>= λ r. Ok r.0) deep
-    ∙ ap (λ o. lines_read (file_at t at (length os)) (lines_of_parts (option_map_or (λ xs. xs) o [])) (with_read at.file s) (start (layout_in t) at.file) >>= λ r. Ok r.0) (sym there)
-    ∙ ap (λ o. open_read t held o (length os) (with_read at.file s)) (sym is))
+    (ap (λ r. tree_read (file_at t to.at depth) r (with_read to.at.file s) (start (layout_in t) to)) same
+    ∙ tree_from (file_at t to.at depth) (lines_of_parts ls) g (with_read to.at.file s) (start (layout_in t) to) tree
+    ∙ ap (λ k. lines_read (file_at t to.at k) (lines_of_parts ls) (with_read to.at.file s) (start (layout_in t) to) >>= λ r. Ok r.0) deep
+    ∙ ap (λ o. lines_read (file_at t to.at (length os)) (lines_of_parts (option_map_or (λ xs. xs) o [])) (with_read to.at.file s) (start (layout_in t) to) >>= λ r. Ok r.0) (sym there)
+    ∙ ap (λ o. open_read t held o (length os) (with_read to.at.file s)) (sym is))
 
 -- a file with a fault is entered
-pub all-bad : (t : Task) (held : Held) (os : List Frame) (at : Found) (depth : ℕ) (fault : FileFault) (s : State)
-    → tree_of t.settings.language t.listing t.without at.file ≡ Err fault
-    → all_read t held os (file_read t (deeper_at t (most_depth - depth)) at s) ≡ Err (halt_at (file_at t at depth) (with_read at.file s) fault.1 fault.0)
-all-bad t held os at depth fault s is =
-    all-same t held os _ _ (ap (λ r. tree_read (file_at t at depth) r (with_read at.file s) (start (layout_in t) at.file)) is)
-    ∙ all-stop t held os (halt_at (file_at t at depth) (with_read at.file s) fault.1 fault.0)
+pub all-bad : (t : Task) (held : Held) (os : List Frame) (to : Entry) (depth : ℕ) (fault : FileFault) (s : State)
+    → tree_of t.settings.language t.listing t.without to.at.file ≡ Err fault
+    → all_read t held os (file_read t (deeper_at t (most_depth - depth)) to s) ≡ Err (halt_at (file_at t to.at depth) (with_read to.at.file s) fault.1 fault.0)
+all-bad t held os to depth fault s is =
+    all-same t held os _ _ (ap (λ r. tree_read (file_at t to.at depth) r (with_read to.at.file s) (start (layout_in t) to)) is)
+    ∙ all-stop t held os (halt_at (file_at t to.at depth) (with_read to.at.file s) fault.1 fault.0)
 
 -- more files are held
 pub all-held : (t : Task) (held held' : Held) (os : List Frame) (r : Result State Halt) → All (λ (o : Frame). parts_in held o.at.file ≡ parts_in held' o.at.file) os

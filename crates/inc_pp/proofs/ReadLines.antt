@@ -6,7 +6,7 @@ use Rattle.inc_lookup.specs.Projects.{Layout}
 use Rattle.inc_pp.specs.Choices.{LeadsTo, StopsAt}
 use Rattle.inc_pp.specs.Settings.{Settings}
 use Rattle.inc_pp.specs.Stops.{IfStop, IsIn, halt_at}
-use Rattle.inc_pp.specs.Tasks.{File, State}
+use Rattle.inc_pp.specs.Tasks.{File, State, Entry}
 use Rattle.inc_pp.specs.Walks.{lines_read}
 use Rattle.inc_pp.specs.declared.faults.Break.{Break}
 use Rattle.inc_pp.specs.declared.frames.Frame.{Frame}
@@ -31,7 +31,7 @@ module _ (ps : List FilePart) (layout : Layout) (settings : Settings) (nests : B
     moved f is = subst (λ (at : Found). IsIn layout settings at nests f) (sym on.same) is
 
     -- a step more
-    pub led : (q : Frame) (u : State) (answer found : Option Found) → answer ≡ found
+    pub led : (q : Frame) (u : State) (answer found : Option Entry) → answer ≡ found
         → ((f : File) → IsIn layout settings p.at nests f → LeadsTo own f p.part t p.here answer q.part u q.here)
         → (f : File) → IsIn layout settings o.at nests f → LeadsTo ps f o.part s o.here found q.part u q.here
     led q u answer found found_is step f is =
@@ -41,7 +41,7 @@ module _ (ps : List FilePart) (layout : Layout) (settings : Settings) (nests : B
     pub led_on : (f : File) → IsIn layout settings o.at nests f → LeadsTo ps f o.part s o.here None p.part t p.here
     led_on f is = on_to ps f o.part p.part s t o.here p.here (on.leads f is)
 
-    pub is_on : (q : Frame) (u : State) (answer : Option Found) → answer ≡ None → p.part < q.part → q.at ≡ p.at → u.reads ≡ t.reads
+    pub is_on : (q : Frame) (u : State) (answer : Option Entry) → answer ≡ None → p.part < q.part → q.at ≡ p.at → u.reads ≡ t.reads
         → ((f : File) → IsIn layout settings p.at nests f → LeadsTo own f p.part t p.here answer q.part u q.here) → IsOn q u
     is_on q u answer none onward same reads step = record {
       onward = omega (arith, on.onward, onward);

@@ -225,7 +225,7 @@ of_reads earlier reads given r once = record { later = r.later; is = r.is; only 
 module _ {S : Type 0} (gives : S → ℕ → Result (List ℕ) ReadFault → S → Type 0) (old : S) (j : Job) where
   -- nothing is read yet by this preprocessing
   pub reading-from : (now : S) (held : Held) → AreShared gives old now j.layout j.settings.language j.without held j.earlier
-      → IsReading gives old now j held [] (λ t. reading most_depth t (source_at j.source) (begun j.table))
+      → IsReading gives old now j held [] (λ t. reading most_depth t (source_at j.settings j.source) (begun j.table))
   reading-from now held shared = record {
     given = j.earlier;
     shared = shared;

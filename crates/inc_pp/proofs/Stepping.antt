@@ -16,7 +16,7 @@ use Rattle.inc_pp.specs.Includes.{included}
 use Rattle.inc_pp.specs.Runs.{run_read}
 use Rattle.inc_pp.specs.Settings.{Settings}
 use Rattle.inc_pp.specs.Stops.{IfStop, halt_at, IsSearched, IsUnder, IsIn}
-use Rattle.inc_pp.specs.Tasks.{File, State, Here, Deeper}
+use Rattle.inc_pp.specs.Tasks.{File, State, Entry, Here, Deeper}
 use Rattle.inc_pp.specs.Walks.{lines_read}
 use Rattle.inc_pp.proofs.LineSteps.{AreText, IsNoText, directive_at, run-onward_at, step-text, step-control, step-endif}
 
@@ -69,7 +69,7 @@ module _ (ps : List FilePart) (part : ℕ) (low : part < length ps) where
     control_line : (l : FileLine) × (slice_get ps part ≡ Some (DirectivePart l)) × (role l.kind ≡ ControlLine)
     control_line = directive_at ps part ControlLine control_other low control
 
-    pub control-leads : (f : File) (s t : State) (h k : Here) (found : Option Found)
+    pub control-leads : (f : File) (s t : State) (h k : Here) (found : Option Entry)
         → ((l : FileLine) → slice_get ps part ≡ Some (DirectivePart l) → control_read f l s h ≡ included f.deeper found t k)
         → LeadsTo ps f part s h found (part + 1) t k
     control-leads f s t h k found is =

@@ -23,7 +23,7 @@ use Rattle.inc_macro.specs.Results.{◌>>=◌}
 use Rattle.inc_pp.specs.Preprocessing.{outcome_of, with_read, file_read, most_depth}
 use Rattle.inc_pp.specs.Readings.{IsOfReadsAfter}
 use Rattle.inc_pp.specs.Stops.{AreOf, IfBadFile, IfStop, IfUnread, halt_at, IsIn}
-use Rattle.inc_pp.specs.Tasks.{File, State}
+use Rattle.inc_pp.specs.Tasks.{File, State, Entry}
 use Rattle.inc_pp.specs.Walks.{lines_read, Held, held_at, fault_at, known_at, parts_in, deeper_at, file_at, all_read}
 use Rattle.inc_pp.specs.HeldFiles.{IsSkipped}
 use Rattle.inc_pp.specs.WalkJobs.{first_frame, frames_left, walk_left}
@@ -112,8 +112,8 @@ pub if_err : {A B : Type 0} (r : Result A B) {P Q : B → Type 0} → ((e : B) �
 if_err (Ok x) step p = tt
 if_err (Err e) step p = step e p
 
-pub found_of : (P : Found → Type 0) (found : Option Found) (at : Found) → found ≡ Some at → IfSome found P → P at
-found_of P found at is h = subst (λ o. IfSome o P) is h
+pub found_of : (P : Entry → Type 0) (found : Option Entry) (to : Entry) → found ≡ Some to → IfSome found P → P to
+found_of P found to is h = subst (λ o. IfSome o P) is h
 
 pub one_longer : (new mid old : List ℕ) (file : ℕ) → new ≡ mid ++ file ∷ [] → mid ≡ old → length new ≡ length old + 1
 one_longer new mid old file is same = ap length is ∙ length_push mid file ∙ ap (λ xs. length xs + 1) same
@@ -169,15 +169,15 @@ left-enter held after frames news frame next reads same onward low few less =
 module _ {S : Type 0} (gives : S → ℕ → Result (List ℕ) ReadFault → S → Type 0) (old new : S) (j : Job) (held : Held) (frames : List Frame) where
   ---- a file is entered
 
-  module _ (from : Found) (s : State) (e : IsEntering gives old new j held frames from s) where
+  module _ (from : Entry) (s : State) (e : IsEntering gives old new j held frames from s) where
     -- it is held already
-    pub enter-again : (ls : List FilePart) (frame : Frame) → held_at held from.file ≡ Some ls → frame ≡ first_frame j.layout from
-        → IsWalk gives old new j held (frame ∷ frames) (with_read from.file s)
+    pub enter-again : (ls : List FilePart) (frame : Frame) → held_at held from.at.file ≡ Some ls → frame ≡ first_frame j.layout from
+        → IsWalk gives old new j held (frame ∷ frames) (with_read from.at.file s)
     enter-again ls frame at is = record {
-      reading = reading-again gives old j new held s.reads _ e.reading from.file (Ok ls) (λ t. all_read t held (frame ∷ frames) (Ok (with_read from.file s)))
-          (known_lines (known_at held from.file) ls at)
+      reading = reading-again gives old j new held s.reads _ e.reading from.at.file (Ok ls) (λ t. all_read t held (frame ∷ frames) (Ok (with_read from.at.file s)))
+          (known_lines (known_at held from.at.file) ls at)
           (λ listing laid trees.
-          let tree = trees.trees from.file ls at in
+          let tree = trees.trees from.at.file ls at in
           all-entered (task_of j listing) held frames from (length frames) ls tree.0 s frame refl at tree.1 tree.2
           (is ∙ ap (λ l. first_frame l from) (sym laid)));
       are_open = All-cons (λ (o : Frame). (ks : List FilePart) × (held_at held o.at.file ≡ Some ks)) frame frames
@@ -187,57 +187,57 @@ module _ {S : Type 0} (gives : S → ℕ → Result (List ℕ) ReadFault → S �
     }
 
     -- its fault is known already
-    pub enter-faulty : (line : ℕ) (cause : Cause) → fault_at held from.file ≡ Some (cause, line)
-        → IsOver gives old new j held (record { tokens = s.output; reads = s.reads ++ from.file ∷ []; stop = Some (record { file = from.file; line = line; cause = cause }) })
+    pub enter-faulty : (line : ℕ) (cause : Cause) → fault_at held from.at.file ≡ Some (cause, line)
+        → IsOver gives old new j held (record { tokens = s.output; reads = s.reads ++ from.at.file ∷ []; stop = Some (record { file = from.at.file; line = line; cause = cause }) })
     enter-faulty line cause at =
-        reading-end gives old j new held (s.reads ++ from.file ∷ []) _
-        (reading-again gives old j new held s.reads _ e.reading from.file (Err (cause, line)) (λ t. Err (halt_at (file_at t from (length frames)) (with_read from.file s) line cause))
-        (known_fault (known_at held from.file) (cause, line) at)
-        (λ listing laid trees. all-bad (task_of j listing) held frames from (length frames) (cause, line) s (trees.faults from.file (cause, line) at)))
-        (record { tokens = s.output; reads = s.reads ++ from.file ∷ []; stop = Some (record { file = from.file; line = line; cause = cause }) }) refl
+        reading-end gives old j new held (s.reads ++ from.at.file ∷ []) _
+        (reading-again gives old j new held s.reads _ e.reading from.at.file (Err (cause, line)) (λ t. Err (halt_at (file_at t from.at (length frames)) (with_read from.at.file s) line cause))
+        (known_fault (known_at held from.at.file) (cause, line) at)
+        (λ listing laid trees. all-bad (task_of j listing) held frames from (length frames) (cause, line) s (trees.faults from.at.file (cause, line) at)))
+        (record { tokens = s.output; reads = s.reads ++ from.at.file ∷ []; stop = Some (record { file = from.at.file; line = line; cause = cause }) }) refl
         (λ listing laid trees. refl)
 
-    module _ (later : S) (bytes : List ℕ) (none : known_at held from.file ≡ None) (step : gives new from.file (Ok bytes) later) where
+    module _ (later : S) (bytes : List ℕ) (none : known_at held from.at.file ≡ None) (step : gives new from.at.file (Ok bytes) later) where
       -- it is read, and has a tree
-      pub enter-load : (ls : List FilePart) (tree : Group) (frame : Frame) → text_tree j.settings.language (is_listed j.without from.file) (phase_text bytes) ≡ Ok tree → group_tree (lines_of_parts ls) ≡ Ok tree
+      pub enter-load : (ls : List FilePart) (tree : Group) (frame : Frame) → text_tree j.settings.language (is_listed j.without from.at.file) (phase_text bytes) ≡ Ok tree → group_tree (lines_of_parts ls) ≡ Ok tree
           → AreOf j.settings.language (lines_of_parts ls) → frame ≡ first_frame j.layout from
-          → IsWalk gives old later j (set held from.file (Some (Ok ls))) (frame ∷ frames) (with_read from.file s)
+          → IsWalk gives old later j (set held from.at.file (Some (Ok ls))) (frame ∷ frames) (with_read from.at.file s)
       enter-load ls tree frame has same kinds is =
-          let wide : from.file < length held = omega (arith, e.reading.shared.kept.wide, e.file_within) in
-          let at = held-same held from.file ls wide in
-          let no_lines = held-none held from.file none in
+          let wide : from.at.file < length held = omega (arith, e.reading.shared.kept.wide, e.file_within) in
+          let at = held-same held from.at.file ls wide in
+          let no_lines = held-none held from.at.file none in
           record {
-            reading = reading-more gives old j new held s.reads _ e.reading later from.file bytes e.file_within none step (Ok ls) kinds
+            reading = reading-more gives old j new held s.reads _ e.reading later from.at.file bytes e.file_within none step (Ok ls) kinds
                 (λ ks is. (tree, ap (λ ps. group_tree (lines_of_parts ps)) (sym (lines_of_ok (Ok ls) ls ks refl is)) ∙ same, has)) (λ fault is. absurd (not_both (Ok ls) ls fault refl is))
-                (λ t. all_read t (set held from.file (Some (Ok ls))) (frame ∷ frames) (Ok (with_read from.file s)))
+                (λ t. all_read t (set held from.at.file (Some (Ok ls))) (frame ∷ frames) (Ok (with_read from.at.file s)))
                 (λ listing laid trees.
-                let there = trees.trees from.file ls at in
-                all-held (task_of j listing) held (set held from.file (Some (Ok ls))) frames _ (same_lines held from.file ls frames no_lines e.are_open)
-                ∙ all-entered (task_of j listing) (set held from.file (Some (Ok ls))) frames from (length frames) ls there.0 s frame refl at there.1 there.2
+                let there = trees.trees from.at.file ls at in
+                all-held (task_of j listing) held (set held from.at.file (Some (Ok ls))) frames _ (same_lines held from.at.file ls frames no_lines e.are_open)
+                ∙ all-entered (task_of j listing) (set held from.at.file (Some (Ok ls))) frames from (length frames) ls there.0 s frame refl at there.1 there.2
                 (is ∙ ap (λ l. first_frame l from) (sym laid)));
-            are_open = All-cons (λ (o : Frame). (ks : List FilePart) × (held_at (set held from.file (Some (Ok ls))) o.at.file ≡ Some ks)) frame frames
-                (ls, ap (λ (o : Frame). held_at (set held from.file (Some (Ok ls))) o.at.file) is ∙ at) (still_open held from.file ls frames no_lines e.are_open);
+            are_open = All-cons (λ (o : Frame). (ks : List FilePart) × (held_at (set held from.at.file (Some (Ok ls))) o.at.file ≡ Some ks)) frame frames
+                (ls, ap (λ (o : Frame). held_at (set held from.at.file (Some (Ok ls))) o.at.file) is ∙ at) (still_open held from.at.file ls frames no_lines e.are_open);
             deep = omega (arith, e.deep);
             within = All-cons (λ (o : Frame). o.at.file < length j.layout.paths) frame frames (subst (λ (o : Frame). o.at.file < length j.layout.paths) (sym is) e.file_within) e.within;
           }
 
       -- it is read, and has none
-      pub enter-bad : (line : ℕ) (cause : Cause) → text_tree j.settings.language (is_listed j.without from.file) (phase_text bytes) ≡ Err (cause, line)
-          → IsOver gives old later j (set held from.file (Some (Err (cause, line))))
-          (record { tokens = s.output; reads = s.reads ++ from.file ∷ []; stop = Some (record { file = from.file; line = line; cause = cause }) })
+      pub enter-bad : (line : ℕ) (cause : Cause) → text_tree j.settings.language (is_listed j.without from.at.file) (phase_text bytes) ≡ Err (cause, line)
+          → IsOver gives old later j (set held from.at.file (Some (Err (cause, line))))
+          (record { tokens = s.output; reads = s.reads ++ from.at.file ∷ []; stop = Some (record { file = from.at.file; line = line; cause = cause }) })
       enter-bad line cause has =
-          let at = fault-same held from.file (cause, line) (omega (arith, e.reading.shared.kept.wide, e.file_within)) in
-          reading-end gives old j later (set held from.file (Some (Err (cause, line)))) (s.reads ++ from.file ∷ []) _
-          (reading-more gives old j new held s.reads _ e.reading later from.file bytes e.file_within none step (Err (cause, line)) tt
+          let at = fault-same held from.at.file (cause, line) (omega (arith, e.reading.shared.kept.wide, e.file_within)) in
+          reading-end gives old j later (set held from.at.file (Some (Err (cause, line)))) (s.reads ++ from.at.file ∷ []) _
+          (reading-more gives old j new held s.reads _ e.reading later from.at.file bytes e.file_within none step (Err (cause, line)) tt
           (λ ks is. absurd (not_both (Err (cause, line)) ks (cause, line) is refl)) (λ fault is. has ∙ ap (λ x. Err x) (fault_of_err (Err (cause, line)) (cause, line) fault refl is))
-          (λ t. Err (halt_at (file_at t from (length frames)) (with_read from.file s) line cause))
-          (λ listing laid trees. all-bad (task_of j listing) held frames from (length frames) (cause, line) s (trees.faults from.file (cause, line) at)))
-          (record { tokens = s.output; reads = s.reads ++ from.file ∷ []; stop = Some (record { file = from.file; line = line; cause = cause }) }) refl
+          (λ t. Err (halt_at (file_at t from.at (length frames)) (with_read from.at.file s) line cause))
+          (λ listing laid trees. all-bad (task_of j listing) held frames from (length frames) (cause, line) s (trees.faults from.at.file (cause, line) at)))
+          (record { tokens = s.output; reads = s.reads ++ from.at.file ∷ []; stop = Some (record { file = from.at.file; line = line; cause = cause }) }) refl
           (λ listing laid trees. refl)
 
     -- it cannot be read
-    pub enter-fails : (later : S) (fault : ReadFault) → known_at held from.file ≡ None → gives new from.file (Err fault) later → fault ≢ read.NoMemory
-        → EndsBy gives old later j held (with_read from.file s) from.file (end.Unread fault)
+    pub enter-fails : (later : S) (fault : ReadFault) → known_at held from.at.file ≡ None → gives new from.at.file (Err fault) later → fault ≢ read.NoMemory
+        → EndsBy gives old later j held (with_read from.at.file s) from.at.file (end.Unread fault)
     enter-fails later fault none step why = (
       record {
         state = failing.state;
@@ -257,10 +257,10 @@ module _ {S : Type 0} (gives : S → ℕ → Result (List ℕ) ReadFault → S �
       why,
     )
       where
-        failing : FailsAfter gives old later j.layout from.file fault
+        failing : FailsAfter gives old later j.layout from.at.file fault
             (λ given listing. (whole_of j listing ≡ all_read (task_of j listing) held frames (file_read (task_of j listing) (deeper_at (task_of j listing) (most_depth - length frames)) from s))
-            × IsOfReadsAfter j.earlier s.reads given × All (λ (g : Given). g.file ≢ from.file) given)
-        failing = reading-fails gives old j new held s.reads _ e.reading later from.file fault none step
+            × IsOfReadsAfter j.earlier s.reads given × All (λ (g : Given). g.file ≢ from.at.file) given)
+        failing = reading-fails gives old j new held s.reads _ e.reading later from.at.file fault none step
 
   ---- the innermost file is read on
 
@@ -308,7 +308,7 @@ module _ {S : Type 0} (gives : S → ℕ → Result (List ℕ) ReadFault → S �
             (All-tail (λ (o : Frame). o.at.file < length j.layout.paths) frame frames w.within)
 
         -- a line is read that leads to no file
-        pub walk-step : (found : Option Found) → found ≡ None → ((f : File) → IsIn j.layout j.settings frame.at nests f → LeadsTo ls f frame.part s frame.here found next.part t next.here)
+        pub walk-step : (found : Option Entry) → found ≡ None → ((f : File) → IsIn j.layout j.settings frame.at nests f → LeadsTo ls f frame.part s frame.here found next.part t next.here)
             → IsWalk gives old new j held (next ∷ frames) t
         unfolding this
         walk-step found is leads = record {
@@ -327,7 +327,7 @@ module _ {S : Type 0} (gives : S → ℕ → Result (List ℕ) ReadFault → S �
         }
 
         -- a line is read that leads to a file
-        pub walk-enter : (found : Option Found) (to : Found) → found ≡ Some to → to.file < length j.layout.paths → nests ≡ true
+        pub walk-enter : (found : Option Entry) (to : Entry) → found ≡ Some to → to.at.file < length j.layout.paths → nests ≡ true
             → ((f : File) → IsIn j.layout j.settings frame.at nests f → LeadsTo ls f frame.part s frame.here found next.part t next.here)
             → IsEntering gives old new j held (next ∷ frames) to t
         unfolding this
@@ -387,12 +387,12 @@ enter-break gives old new j held s file (end.Unread fault) stops fails bad unrea
 enter-break gives old new j held s file end.NoMemory stops fails bad unread = tt
 
 -- a file is entered of which nothing is left
-pub enter-passed : {S : Type 0} (gives : S → ℕ → Result (List ℕ) ReadFault → S → Type 0) (old new : S) (j : Job) (held : Held) (frames : List Frame) (from : Found) (s t : State)
-    → IsEntering gives old new j held frames from s → t ≡ with_read from.file s → (ls : List FilePart) → held_at held from.file ≡ Some ls → IsSkipped t.table ls → IsWalk gives old new j held frames t
+pub enter-passed : {S : Type 0} (gives : S → ℕ → Result (List ℕ) ReadFault → S → Type 0) (old new : S) (j : Job) (held : Held) (frames : List Frame) (from : Entry) (s t : State)
+    → IsEntering gives old new j held frames from s → t ≡ with_read from.at.file s → (ls : List FilePart) → held_at held from.at.file ≡ Some ls → IsSkipped t.table ls → IsWalk gives old new j held frames t
 enter-passed gives old new j held frames from s t e is ls at nothing =
     subst (λ (x : State). IsWalk gives old new j held frames x) (sym is)
-    (walk-passed gives old new j held frames first (with_read from.file s) (enter-again gives old new j held frames from s e ls first at refl)
-    (λ f. ap (λ xs. lines_read f (lines_of_parts xs) (with_read from.file s) first.here) (lines_are held from.file ls at) ∙ nothing f (with_read from.file s) first.here (ap (λ (x : State). x.table) (sym is))))
+    (walk-passed gives old new j held frames first (with_read from.at.file s) (enter-again gives old new j held frames from s e ls first at refl)
+    (λ f. ap (λ xs. lines_read f (lines_of_parts xs) (with_read from.at.file s) first.here) (lines_are held from.at.file ls at) ∙ nothing f (with_read from.at.file s) first.here (ap (λ (x : State). x.table) (sym is))))
   where
     first : Frame
     first = first_frame j.layout from

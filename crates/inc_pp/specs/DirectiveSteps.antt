@@ -1,6 +1,7 @@
 -- The steps of directives that are of no section by what they read, whatever the file at hand.
 use Rattle.std.specs.Prelude.{ℕ, Bool, List, length, drop, nat_le, if◌then◌else◌, Option, Some, None, Result, Ok, Err, ok_or}
 use Rattle.inc_token.specs.declared.kinds.IncludeName.{IncludeName}
+use Rattle.inc_token.specs.declared.kinds.Language.{Language}
 use Rattle.inc_token.specs.TokenLines.{Tok}
 use Rattle.inc_directive.specs.LineKinds.{Target, Quoted, Angled, Nothing, line_of_tokens}
 use Rattle.inc_directive.specs.declared.kinds.DirectiveKind.{DirectiveKind}
@@ -13,7 +14,7 @@ use Rattle.inc_expand.specs.Expansion.{Place, Meter}
 use Rattle.inc_pp.specs.declared.causes.Cause.{Cause}
 use Rattle.inc_pp.specs.declared.causes.Cause.TheVariants as cause
 use Rattle.inc_pp.specs.declared.settings.Missing.{Missing}
-use Rattle.inc_pp.specs.Directives.{counted, line_operands, names_once, put_pragma, renumbered, with_table}
+use Rattle.inc_pp.specs.Directives.{Numbering, counted, line_operands, names_once, put_pragma, renumbered, with_system, with_table}
 use Rattle.inc_pp.specs.Includes.{Header, header_in, is_done, most_reads, not_found, with_once}
 use Rattle.inc_pp.specs.Runs.{put_out}
 use Rattle.inc_pp.specs.Steps.{expansion_at}
@@ -39,10 +40,10 @@ wanted_at by missing nests s (Some at) =
 ---- other directives
 
 -- what `#line` or a line marker with these tokens makes of the numbers of lines, and the meter after it
-abbrev pub renumbered_at : Here → (last : ℕ) → Place → Table → Meter → List Tok → Result (Here × Meter) Cause
+abbrev pub renumbered_at : Here → (last : ℕ) → Place → Table → Meter → List Tok → Result (Numbering × Meter) Cause
 renumbered_at h last place table meter ts =
     expansion_at place table meter (line_operands ts) >>= λ r.
-    ok_or (renumbered table.language h last (counted ts r.0)) cause.BadLine >>= λ here. Ok (here, r.1)
+    ok_or (renumbered table.language h last (counted ts r.0)) cause.BadLine >>= λ n. Ok (n, r.1)
 
 -- what a pragma changes
 abbrev pub pragma_by : (marks : Option Place) → ℕ → List Tok → State → State
@@ -56,7 +57,12 @@ define_by ts s = caused cause.Define (define (drop 2 ts) s.table) >>= λ t. Ok (
 abbrev pub undef_by : List Tok → State → Result State Cause
 undef_by ts s = caused cause.Define (undef (drop 2 ts) s.table) >>= λ r. Ok (with_table r.1 s)
 
--- what a directive changes that is no include, no `#line` and of no section
+-- what a directive makes of what is known of the file at hand that is no include, no `#line` and of no section
+abbrev pub here_by : DirectiveKind → Language → List Tok → Here → Here
+here_by Pragma language ts h = with_system language (drop 2 ts) h
+here_by _ language ts h = h
+
+-- what it changes else
 abbrev pub changed_by : (marks : Option Place) → DirectiveKind → ℕ → List Tok → State → Result State Cause
 changed_by marks Define file ts s = define_by ts s
 changed_by marks Undef file ts s = undef_by ts s

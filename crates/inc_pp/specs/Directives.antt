@@ -1,6 +1,6 @@
 -- The other directives (ISO/IEC 9899:2018, 6.10.3 to 6.10.7). Choices of this profile: `#pragma once`; other pragmas are put out as they
 -- are; `#warning` changes nothing. GNU C has line markers.
-use Rattle.std.specs.Prelude.{ℕ, ◌+◌, ◌&&◌, Bool, true, false, List, [], ◌∷◌, Option, Some, None, Result, Ok, Err, if◌then◌else◌, take, drop, nat_le, pos, ◌-ℤ◌, option_map, option_and_then, ok_or}
+use Rattle.std.specs.Prelude.{ℕ, ◌+◌, ◌&&◌, ◌||◌, Bool, true, false, List, [], ◌∷◌, Option, Some, None, Result, Ok, Err, if◌then◌else◌, take, drop, nat_le, nat_lt, codes, bytes_eq, pos, ◌-ℤ◌, ℤ, option_map, option_and_then, ok_or}
 use Rattle.std.specs.List.{list_all}
 use Rattle.inc_token.specs.declared.kinds.Language.{Language}
 use Rattle.inc_token.specs.declared.kinds.Language.TheVariants.{Gnu}
@@ -20,6 +20,7 @@ use Rattle.inc_pp.specs.declared.causes.Cause.{Cause}
 use Rattle.inc_pp.specs.declared.causes.Cause.TheVariants as cause
 use Rattle.inc_pp.specs.Includes.{is_plain_string, include_target, included, with_once}
 pub use Rattle.inc_pp.specs.Pragmas.{names_once, put_pragma}
+use Rattle.inc_pp.specs.Pragmas.{is_gnu}
 use Rattle.inc_pp.specs.Runs.{expanded, marks_in, put_out}
 use Rattle.inc_pp.specs.Sections.{operands}
 use Rattle.inc_pp.specs.Tasks.{File, State, Here, Halt, caused, halting}
@@ -69,12 +70,31 @@ line_operands ts = if is_marker ts then drop 1 ts else drop 2 ts
 abbrev pub counted : List Tok → List Item → List Item
 counted ts is = if is_marker ts then take 2 is else is
 
+-- how lines are numbered: presumed minus physical line, and the literal for `__FILE__`
+pub record Numbering : Type 0 where
+  pub shift : ℤ
+  pub name : List ℕ
+
 -- the line after the directive's last gets the number (6.10.4)
-abbrev pub renumbered : Language → Here → (last : ℕ) → List Item → Option Here
+abbrev pub renumbered : Language → Here → (last : ℕ) → List Item → Option Numbering
 renumbered language h last [] = None
 renumbered language h last (i ∷ is) =
     option_and_then (λ n. option_map (λ name. record { shift = pos n -ℤ pos (last + 1); name = name }) (line_name h is))
     (line_number language i)
+
+-- the lines that follow are numbered so
+abbrev pub with_numbering : Numbering → Here → Here
+with_numbering n h = record h { shift = n.shift; name = n.name }
+
+-- `#pragma GCC system_header` in GNU C
+abbrev pub names_system : Language → List Tok → Bool
+names_system language (t ∷ u ∷ ts) = is_gnu language && (bytes_eq t.spelling (codes "GCC") && bytes_eq u.spelling (codes "system_header"))
+names_system language _ = false
+
+-- by it what follows in a header is of a system header; it says nothing in the source
+abbrev pub with_system : Language → List Tok → Here → Here
+with_system language ts h =
+    record h { standing = record h.standing { is_system = h.standing.is_system || (nat_lt 0 h.standing.level && names_system language ts) } }
 
 -- `#pragma once` has its file read once; any other pragma is put out as it is, or not at all
 abbrev pub after_pragma : File → FileLine → State → Here → State
@@ -88,9 +108,9 @@ changed Define f l s h = caused cause.Define (define (operands l) s.table) >>= �
 changed Undef f l s h = caused cause.Define (undef (operands l) s.table) >>= λ r. Ok (with_table r.1 s, h)
 changed Line f l s h =
     expanded f h s (line_operands l.tokens) >>= λ r.
-    ok_or (renumbered s.table.language h l.last_line (counted l.tokens r.0)) cause.BadLine >>= λ here. Ok (r.1, here)
+    ok_or (renumbered s.table.language h l.last_line (counted l.tokens r.0)) cause.BadLine >>= λ n. Ok (r.1, with_numbering n h)
 changed Error f l s h = Err cause.ErrorDirective
-changed Pragma f l s h = Ok (after_pragma f l s h, h)
+changed Pragma f l s h = Ok (after_pragma f l s h, with_system s.table.language (operands l) h)
 changed Foreign f l s h = Err cause.UnknownDirective
 changed Unknown f l s h = Err cause.UnknownDirective
 changed _ f l s h = Ok (s, h)

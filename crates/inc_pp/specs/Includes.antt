@@ -13,17 +13,19 @@ use Rattle.inc_directive.specs.Groups.{FileLine}
 use Rattle.inc_lookup.specs.declared.projects.Form.{Form}
 use Rattle.inc_lookup.specs.declared.projects.Form.TheVariants as form
 use Rattle.inc_lookup.specs.declared.projects.Found.{Found}
-use Rattle.inc_lookup.specs.Projects.{found_place, path_at}
+use Rattle.inc_lookup.specs.Projects.{Layout, found_place, path_at}
 use Rattle.inc_macro.specs.Results.{◌>>=◌}
 use Rattle.inc_expand.specs.Expansion.{Item}
 use Rattle.inc_pp.specs.declared.causes.Cause.{Cause}
 use Rattle.inc_pp.specs.declared.causes.Cause.TheVariants.{NoSuchHeader, BadInclude, TooDeep, TooManyReads}
 use Rattle.inc_pp.specs.declared.settings.Missing.{Missing}
 use Rattle.inc_pp.specs.declared.settings.Missing.TheVariants as missing
+use Rattle.inc_pp.specs.FileNames.{included_standing}
 use Rattle.inc_pp.specs.Runs.{expanded}
 pub use Rattle.inc_pp.specs.Runs.{with_once}
 use Rattle.inc_pp.specs.Sections.{operands}
-use Rattle.inc_pp.specs.Tasks.{File, State, Here, Halt, Deeper, layout_in}
+use Rattle.inc_pp.specs.Settings.{Settings}
+use Rattle.inc_pp.specs.Tasks.{File, State, Entry, Here, Halt, Deeper, layout_in, shown_path}
 use Rattle.inc_pp.specs.declared.includes.TheConstants.{MOST_READS}
 
 -- what an include names
@@ -105,12 +107,24 @@ abbrev pub found_from : File → IncludeName → Header → Option Found
 found_from f by header =
     found_place (layout_in f.task) (path_at (layout_in f.task) f.index) header.form (search_after by f.next) header.name
 
+-- the file that a name has found in the file at a place
+abbrev pub entry_in : Layout → Settings → (file : ℕ) → Here → (name : List ℕ) → Found → Entry
+entry_in layout settings file h name at = record {
+  at = at;
+  standing = included_standing settings (shown_path layout file h.standing.spelled) h.standing name at.next;
+}
+
+-- the same in the file at hand
+abbrev pub entered : File → Here → (name : List ℕ) → Found → Entry
+entered f h name at = entry_in (layout_in f.task) f.task.settings f.index h name at
+
 -- the file that an include directive leads to, and the state after it
-abbrev pub include_target : IncludeName → Target → File → FileLine → State → Here → Result (Option Found × State) Cause
+abbrev pub include_target : IncludeName → Target → File → FileLine → State → Here → Result (Option Entry × State) Cause
 include_target by target f l s h =
-    header_of target f l s h >>= λ r. led_to by f r.1 (found_from f by r.0)
+    header_of target f l s h >>= λ r. led_to by f r.1 (found_from f by r.0) >>= λ q.
+    Ok (option_map (entered f h r.0.name) q.0, q.1)
 
 -- the file is read with the shift and name of its own, and those of the including file come back
-abbrev pub included : Deeper → Option Found → State → Here → Result (State × Here) Halt
-included (Some read) (Some at) s h = read at s >>= λ after. Ok (after, h)
+abbrev pub included : Deeper → Option Entry → State → Here → Result (State × Here) Halt
+included (Some read) (Some e) s h = read e s >>= λ after. Ok (after, h)
 included _ _ s h = Ok (s, h)

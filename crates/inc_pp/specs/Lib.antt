@@ -1,6 +1,8 @@
 pub mod Settings
+pub mod FileNames
 pub mod Files
 pub mod Tasks
+pub mod Entries
 pub mod LineMarkers
 pub mod Pragmas
 pub mod Runs

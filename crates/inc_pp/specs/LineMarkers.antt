@@ -1,6 +1,6 @@
 -- Line markers: lines that say which line of which file the next one is, as compilers read them in a text that was preprocessed. They are
 -- put out where the caller asks for them.
-use Rattle.std.specs.Prelude.{ℕ, ◌+◌, ◌==◌, true, false, List, [], ◌∷◌, ◌++◌, Option, Some, None, if◌then◌else◌, codes, decimal}
+use Rattle.std.specs.Prelude.{ℕ, ◌+◌, ◌==◌, Bool, true, false, List, [], ◌∷◌, ◌++◌, Option, Some, None, if◌then◌else◌, codes, decimal}
 use Rattle.inc_token.specs.declared.kinds.Kind.TheVariants.{Number, Punct, Str}
 use Rattle.inc_token.specs.declared.kinds.Language.{Language}
 use Rattle.inc_expand.specs.Expansion.{Item, Place, presumed_line}
@@ -11,12 +11,17 @@ use Rattle.inc_pp.specs.Tasks.{OutToken, line_tokens}
 abbrev pub marks_of : Settings → Place → Option Place
 marks_of settings place = if settings.has_markers then Some place else None
 
--- the marker of a physical line: the presumed one, and the name of the file
+-- the flag that says that a line is of a system header
+abbrev pub flags : (is_system : Bool) → List OutToken
+flags true = record { kind = Number; spelling = codes "3"; starts = false } ∷ []
+flags false = []
+
+-- the marker of a physical line: the presumed one, the name of the file, and perhaps the flag
 abbrev pub marker : Language → Place → (line : ℕ) → List OutToken
 marker language place line =
     record { kind = Punct; spelling = codes "#"; starts = true }
     ∷ record { kind = Number; spelling = decimal (presumed_line language place line); starts = false }
-    ∷ record { kind = Str; spelling = place.name; starts = false } ∷ []
+    ∷ record { kind = Str; spelling = place.name; starts = false } ∷ flags place.is_system
 
 -- tokens that are put out as a line of their own, which come from a physical line
 abbrev pub own_line : Language → (marks : Option Place) → (line : ℕ) → List Item → List OutToken

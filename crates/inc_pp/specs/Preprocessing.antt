@@ -1,10 +1,9 @@
 -- Preprocessing of a source file (ISO/IEC 9899:2018, 5.1.1.2 phases 1 to 4; 6.10): a recursion on the tree of a file, and on how deep
 -- includes may still nest. Choices of this profile: the limits, and what a stop keeps.
-use Rattle.std.specs.Prelude.{ℕ, zero, suc, true, false, List, [], ◌∷◌, ◌++◌, Option, Some, None, Result, Ok, Err}
+use Rattle.std.specs.Prelude.{ℕ, zero, suc, true, false, List, [], ◌∷◌, ◌++◌, Option, Some, None, Result, Ok, Err, unwrap_or}
 use Rattle.inc_directive.specs.Groups.{Group, Branches, Empty, Run, Control, Section, Branch, Otherwise, Close}
 use Rattle.inc_lookup.specs.declared.projects.DirectiveId.{DirectiveId}
-use Rattle.inc_lookup.specs.declared.projects.Found.{Found}
-use Rattle.inc_lookup.specs.Projects.{Listing}
+use Rattle.inc_lookup.specs.Projects.{Layout, Listing, layout_of, path_at}
 use Rattle.inc_macro.specs.declared.faults.DefineFault.{DefineFault}
 pub use Rattle.inc_macro.specs.Macros.{with_words}
 use Rattle.inc_macro.specs.Macros.{no_macros}
@@ -14,8 +13,8 @@ use Rattle.inc_pp.specs.Directives.{control_read}
 use Rattle.inc_pp.specs.Files.{FileFault, tree_of}
 use Rattle.inc_pp.specs.Runs.{run_read}
 use Rattle.inc_pp.specs.Sections.{is_taken}
-use Rattle.inc_pp.specs.Settings.{Settings}
-use Rattle.inc_pp.specs.Tasks.{OutToken, Task, State, Here, Halt, Deeper, File, layout_in, start, source_at, begun, halting}
+use Rattle.inc_pp.specs.Settings.{Settings, sourced_settings}
+use Rattle.inc_pp.specs.Tasks.{OutToken, Task, State, Entry, Here, Halt, Deeper, File, layout_in, start, source_at, begun, halting}
 use Rattle.inc_pp.specs.declared.walks.TheConstants.{MOST_DEPTH}
 
 ---- files
@@ -45,19 +44,19 @@ with_read file s =
     record { table = s.table; once = s.once; meter = s.meter; reads = s.reads ++ (file ∷ []); output = s.output }
 
 -- a file is added to the reads, then read from the top
-abbrev pub file_read : Task → Deeper → Found → State → Result State Halt
-file_read t deeper at s =
-    tree_read (record { task = t; index = at.file; next = at.next; deeper = deeper })
-    (tree_of t.settings.language t.listing t.without at.file) (with_read at.file s) (start (layout_in t) at.file)
+abbrev pub file_read : Task → Deeper → Entry → State → Result State Halt
+file_read t deeper e s =
+    tree_read (record { task = t; index = e.at.file; next = e.at.next; deeper = deeper })
+    (tree_of t.settings.language t.listing t.without e.at.file) (with_read e.at.file s) (start (layout_in t) e)
 
 -- includes nest so deep at most; the source is at depth 0
 abbrev pub most_depth : ℕ
 most_depth = MOST_DEPTH
 
 -- a file below which includes may still nest so deep
-abbrev pub reading : (left : ℕ) → Task → Found → State → Result State Halt
-reading zero t at s = file_read t None at s
-reading (suc left) t at s = file_read t (Some (reading left t)) at s
+abbrev pub reading : (left : ℕ) → Task → Entry → State → Result State Halt
+reading zero t e s = file_read t None e s
+reading (suc left) t e s = file_read t (Some (reading left t)) e s
 
 ---- the whole
 
@@ -72,10 +71,18 @@ abbrev pub outcome_of : Result State Halt → Outcome
 outcome_of (Ok s) = record { tokens = s.output; reads = s.reads; stop = None }
 outcome_of (Err halt) = record { tokens = halt.state.output; reads = halt.state.reads; stop = Some halt.stop }
 
+-- the settings with a name of the source: its path in the list, where they have none
+abbrev pub named_settings : Layout → (source : ℕ) → Settings → Settings
+named_settings layout source s = sourced_settings (unwrap_or s.source (path_at layout source)) s
+
+-- a source that is read under settings with a name of it
+abbrev pub source_read : Listing → (source : ℕ) → Settings → (without : List DirectiveId) → State → Result State Halt
+source_read listing source settings without s =
+    reading most_depth (record { listing = listing; settings = settings; without = without }) (source_at settings source) s
+
 -- the preprocessing of a source file; it is defined where each word of the command line makes a definition
 abbrev pub preprocessing :
     Listing → (source : ℕ) → (words : List (List ℕ)) → Settings → (without : List DirectiveId) → Result Outcome (ℕ × DefineFault)
 preprocessing listing source words settings without =
     with_words 0 words (no_macros settings.language) >>= λ table.
-    Ok (outcome_of (reading most_depth (record { listing = listing; settings = settings; without = without }) (source_at source)
-    (begun table)))
+    Ok (outcome_of (source_read listing source (named_settings (layout_of listing) source settings) without (begun table)))

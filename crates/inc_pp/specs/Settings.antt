@@ -1,12 +1,17 @@
 -- What the caller of a preprocessing sets. Choices of this profile: which dates and times are taken, what an include does whose file is
--- not found, and whether lines are marked.
-use Rattle.std.specs.Prelude.{ℕ, ◌==◌, ◌&&◌, ◌||◌, not, Bool, false, List, Option, Some, None, if◌then◌else◌, nat_le, codes}
+-- not found, whether lines are marked, and how files are called.
+use Rattle.std.specs.Prelude.{ℕ, ◌==◌, ◌&&◌, ◌||◌, not, Bool, false, List, [], Option, Some, None, if◌then◌else◌, nat_le, codes, unwrap_or}
 use Rattle.std.specs.List.{list_all}
 use Rattle.inc_text.specs.Ascii.{quotation_mark, backslash}
 use Rattle.inc_token.specs.declared.kinds.Language.{Language}
 use Rattle.inc_pp.specs.declared.settings.Missing.{Missing}
 
--- language, date and time, what an include does whose file is not found, and whether lines are marked
+-- a directory of the include path: as the user spells it, and whether its headers are the system's
+pub record ShownDir : Type 0 where
+  pub name : List ℕ
+  pub is_system : Bool
+
+-- language, date and time, what an include does whose file is not found, whether lines are marked, and how files are called
 pub record Settings : Type 0 where
   -- that of all files
   pub language : Language
@@ -14,27 +19,62 @@ pub record Settings : Type 0 where
   pub date : List ℕ
   -- the text of `__TIME__`
   pub time : List ℕ
+  -- the text of `__TIMESTAMP__`
+  pub timestamp : List ℕ
   -- what an include does whose file is not found
   pub missing : Missing
   -- whether markers say which lines the tokens are from
   pub has_markers : Bool
+  -- the path by which the source is named; none: that in the list of files
+  pub source : Option (List ℕ)
+  -- the directories of the include path, in its order, as far as it is known how they are spelled
+  pub dirs : List ShownDir
 
 -- printable ASCII other than `"` and `\`
 abbrev pub is_date_byte : ℕ → Bool
 is_date_byte b = (nat_le 32 b && nat_le b 126) && not ((b == quotation_mark) || (b == backslash))
 
 -- settings whose texts can be in a string literal
-abbrev pub settings_of : Language → (date time : List ℕ) → Missing → Option Settings
-settings_of language date time missing =
-    if list_all is_date_byte date && list_all is_date_byte time
-    then Some (record { language = language; date = date; time = time; missing = missing; has_markers = false }) else None
+abbrev pub settings_of : Language → (date time timestamp : List ℕ) → Missing → Option Settings
+settings_of language date time timestamp missing =
+    if list_all is_date_byte date && (list_all is_date_byte time && list_all is_date_byte timestamp)
+    then Some (record {
+      language = language;
+      date = date;
+      time = time;
+      timestamp = timestamp;
+      missing = missing;
+      has_markers = false;
+      source = None;
+      dirs = [];
+    }) else None
 
 -- the settings of the program
 abbrev pub usual_settings : Language → Missing → Settings
 usual_settings language missing =
-    record { language = language; date = codes "Jan  1 1970"; time = codes "00:00:00"; missing = missing; has_markers = false }
+    record {
+      language = language;
+      date = codes "Jan  1 1970";
+      time = codes "00:00:00";
+      timestamp = codes "Thu Jan  1 00:00:00 1970";
+      missing = missing;
+      has_markers = false;
+      source = None;
+      dirs = [];
+    }
 
 -- with markers or without
 abbrev pub marked_settings : (has_markers : Bool) → Settings → Settings
-marked_settings has_markers s =
-    record { language = s.language; date = s.date; time = s.time; missing = s.missing; has_markers = has_markers }
+marked_settings has_markers s = record s { has_markers = has_markers }
+
+-- with this name of the source
+abbrev pub sourced_settings : (source : List ℕ) → Settings → Settings
+sourced_settings source s = record s { source = Some source }
+
+-- with these directories of the include path
+abbrev pub found_in_settings : (dirs : List ShownDir) → Settings → Settings
+found_in_settings dirs s = record s { dirs = dirs }
+
+-- what the source is called; the settings of a preprocessing have a name for it
+abbrev pub base_of : Settings → List ℕ
+base_of s = unwrap_or s.source []

@@ -15,12 +15,21 @@ use Rattle.inc_pp.specs.declared.conditions.Test.{Test}
 use Rattle.inc_pp.specs.declared.conditions.Test.TheVariants.{Defined, Undefined, Value}
 use Rattle.inc_pp.specs.Pragmas.{Laid, laid}
 use Rattle.inc_pp.specs.Sections.{first_name, is_true}
-use Rattle.inc_pp.specs.Settings.{Settings}
+use Rattle.inc_pp.specs.Settings.{Settings, base_of}
 use Rattle.inc_pp.specs.Tasks.{Here, caused}
 
 -- where the tokens of a file are that is read under these settings
 abbrev pub place_under : Settings → Here → Place
-place_under settings h = record { name = h.name; shift = h.shift; date = settings.date; time = settings.time }
+place_under settings h = record {
+  name = h.name;
+  base = base_of settings;
+  shift = h.shift;
+  level = h.standing.level;
+  is_system = h.standing.is_system;
+  date = settings.date;
+  time = settings.time;
+  timestamp = settings.timestamp;
+}
 
 -- expanded tokens, and the meter after them
 abbrev pub expansion_at : Place → Table → Meter → List Tok → Result (List Item × Meter) Cause

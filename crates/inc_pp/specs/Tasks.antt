@@ -1,5 +1,5 @@
 -- What a preprocessing carries, and how it stops.
-use Rattle.std.specs.Prelude.{ℕ, Bool, false, List, [], ◌∷◌, Option, None, Result, Ok, Err, ℤ, pos}
+use Rattle.std.specs.Prelude.{ℕ, Bool, false, List, [], ◌∷◌, Option, Some, None, Result, Ok, Err, ℤ, pos, unwrap_or}
 use Rattle.inc_token.specs.declared.kinds.Kind.{Kind}
 use Rattle.inc_lookup.specs.declared.projects.DirectiveId.{DirectiveId}
 use Rattle.inc_lookup.specs.declared.projects.Found.{Found}
@@ -9,7 +9,9 @@ use Rattle.inc_expand.specs.Expansion.{Place, Item, Meter, first_meter, in_quote
 use Rattle.inc_cond.specs.Headers.{HeaderSearch}
 use Rattle.inc_pp.specs.declared.causes.Cause.{Cause}
 use Rattle.inc_pp.specs.declared.causes.Stop.{Stop}
-use Rattle.inc_pp.specs.Settings.{Settings}
+pub use Rattle.inc_pp.specs.declared.entries.Entry.{Entry}
+use Rattle.inc_pp.specs.FileNames.{Standing, source_standing}
+use Rattle.inc_pp.specs.Settings.{Settings, base_of}
 
 -- what stays the same: the files, the settings, and the include directives that are removed
 pub record Task : Type 0 where
@@ -42,10 +44,14 @@ pub record State : Type 0 where
   -- the tokens that were put out
   pub output : List OutToken
 
--- of the file that is read: presumed minus physical line, and the literal for `__FILE__`
+-- of the file that is read
 pub record Here : Type 0 where
+  -- presumed minus physical line
   pub shift : ℤ
+  -- the literal for `__FILE__`
   pub name : List ℕ
+  -- how it came to be read
+  pub standing : Standing
 
 -- where it stopped, and what was read and put out before
 pub record Halt : Type 0 where
@@ -54,7 +60,7 @@ pub record Halt : Type 0 where
 
 -- how a file is read that the file at hand includes; none where that is too deep
 abbrev pub Deeper : Type 0
-Deeper = Option (Found → State → Result State Halt)
+Deeper = Option (Entry → State → Result State Halt)
 
 -- the file at hand
 pub record File : Type 0 where
@@ -66,16 +72,24 @@ pub record File : Type 0 where
   pub deeper : Deeper
 
 -- the source, which no search has found
-abbrev pub source_at : (file : ℕ) → Found
-source_at file = record { file = file; next = None }
+abbrev pub source_at : Settings → (file : ℕ) → Entry
+source_at settings file = record { at = record { file = file; next = None }; standing = source_standing settings }
 
 -- the paths and directories of a task
 abbrev pub layout_in : Task → Layout
 layout_in t = layout_of t.listing
 
+-- the path of the file at a place as it is spelled, else that in the list
+abbrev pub shown_path : Layout → (file : ℕ) → (spelled : Option (List ℕ)) → List ℕ
+shown_path layout file spelled = unwrap_or spelled (path_at layout file)
+
 -- how a file begins: unshifted, under the literal of its path
-abbrev pub start : Layout → ℕ → Here
-start layout file = record { shift = pos 0; name = in_quotes (escaped (path_at layout file)) }
+abbrev pub start : Layout → Entry → Here
+start layout e = record {
+  shift = pos 0;
+  name = in_quotes (escaped (shown_path layout e.at.file e.standing.spelled));
+  standing = e.standing;
+}
 
 -- nothing is read yet, all units are there, and no count was given
 abbrev pub begun : Table → State
@@ -100,4 +114,13 @@ search_of f = record { layout = layout_in f.task; file = f.index; next = f.next 
 -- where the tokens of the file at hand are
 abbrev pub place_of : File → Here → Place
 place_of f h =
-    record { name = h.name; shift = h.shift; date = f.task.settings.date; time = f.task.settings.time }
+    record {
+      name = h.name;
+      base = base_of f.task.settings;
+      shift = h.shift;
+      level = h.standing.level;
+      is_system = h.standing.is_system;
+      date = f.task.settings.date;
+      time = f.task.settings.time;
+      timestamp = f.task.settings.timestamp;
+    }

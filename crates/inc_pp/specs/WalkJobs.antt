@@ -2,13 +2,12 @@
 use Rattle.std.specs.Prelude.{ℕ, suc, ◌+◌, ◌-◌, ◌*◌, List, [], ◌∷◌, Option, Result, length}
 use Rattle.inc_macro.specs.Macros.{Table}
 use Rattle.inc_text.specs.declared.devices.ReadFault.{ReadFault}
-use Rattle.inc_lookup.specs.declared.projects.Found.{Found}
 use Rattle.inc_lookup.specs.Given.{Given}
 use Rattle.inc_lookup.specs.Projects.{Layout}
 use Rattle.inc_pp.specs.declared.frames.Frame.{Frame}
 use Rattle.inc_pp.specs.Includes.{most_reads}
 use Rattle.inc_pp.specs.Shared.{AreShared}
-use Rattle.inc_pp.specs.Tasks.{State, start}
+use Rattle.inc_pp.specs.Tasks.{State, Entry, start}
 use Rattle.inc_pp.specs.Walks.{Held, parts_in}
 use Rattle.inc_pp.specs.declared.causes.Stop.{Stop}
 use Rattle.inc_pp.specs.Preprocessing.{Outcome}
@@ -26,8 +25,8 @@ job_in job source table earlier = record {
 }
 
 -- a file that begins to be read
-abbrev pub first_frame : Layout → (at : Found) → Frame
-first_frame layout at = record { at = at; part = 0; here = start layout at.file }
+abbrev pub first_frame : Layout → Entry → Frame
+first_frame layout e = record { at = e.at; part = 0; here = start layout e }
 
 -- how many parts are left, and how many files, before the walk is over
 abbrev pub frames_left : Held → List Frame → ℕ

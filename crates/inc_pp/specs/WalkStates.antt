@@ -5,7 +5,6 @@ use Rattle.inc_text.specs.declared.devices.ReadFault.{ReadFault}
 use Rattle.inc_text.specs.declared.devices.ReadFault.TheVariants as read
 use Rattle.inc_directive.specs.Parts.{FilePart}
 use Rattle.inc_lookup.specs.declared.projects.DirectiveId.{DirectiveId}
-use Rattle.inc_lookup.specs.declared.projects.Found.{Found}
 use Rattle.inc_lookup.specs.Given.{Given, Agrees, FailsAfter}
 use Rattle.inc_lookup.specs.Projects.{Layout, Listing, layout_of}
 use Rattle.inc_macro.specs.Macros.{Table}
@@ -16,7 +15,7 @@ use Rattle.inc_pp.specs.Preprocessing.{Outcome, outcome_of, file_read, most_dept
 use Rattle.inc_pp.specs.Readings.{IsOfReadsAfter}
 use Rattle.inc_pp.specs.Settings.{Settings}
 use Rattle.inc_pp.specs.Shared.{AreShared}
-use Rattle.inc_pp.specs.Tasks.{Task, State, Halt, source_at, begun}
+use Rattle.inc_pp.specs.Tasks.{Task, State, Entry, Halt, source_at, begun}
 use Rattle.inc_pp.specs.Walks.{Held, held_at, deeper_at, all_read}
 
 -- what stays the same in a preprocessing, but for the bytes of the files
@@ -58,13 +57,13 @@ pub record IsReading {S : Type 0} (gives : S → ℕ → Result (List ℕ) ReadF
   pub read : AreRead j.earlier reads given
   -- in each listing that agrees this is left of the reading
   pub every : (listing : Listing) → layout_of listing ≡ j.layout → Agrees given listing
-      → reading most_depth (task_of j listing) (source_at j.source) (begun j.table) ≡ left (task_of j listing)
+      → reading most_depth (task_of j listing) (source_at j.settings j.source) (begun j.table) ≡ left (task_of j listing)
 
 ---- the walk
 
 -- the whole, in a listing
 abbrev pub whole_of : Job → Listing → Result State Halt
-whole_of j listing = reading most_depth (task_of j listing) (source_at j.source) (begun j.table)
+whole_of j listing = reading most_depth (task_of j listing) (source_at j.settings j.source) (begun j.table)
 
 -- each file that is being read is held
 abbrev pub AreOpen : Held → List Frame → Type 0
@@ -82,10 +81,10 @@ pub record IsWalk {S : Type 0} (gives : S → ℕ → Result (List ℕ) ReadFaul
   pub within : All (λ (o : Frame). o.at.file < length j.layout.paths) frames
 
 -- and this file is read next
-pub record IsEntering {S : Type 0} (gives : S → ℕ → Result (List ℕ) ReadFault → S → Type 0) (old new : S) (j : Job) (held : Held) (frames : List Frame) (at : Found) (s : State) : Type 0 where
+pub record IsEntering {S : Type 0} (gives : S → ℕ → Result (List ℕ) ReadFault → S → Type 0) (old new : S) (j : Job) (held : Held) (frames : List Frame) (e : Entry) (s : State) : Type 0 where
   -- what is left is this file, and then that of those that are being read
   pub reading : IsReading gives old new j held s.reads
-      (λ t. all_read t held frames (file_read t (deeper_at t (most_depth - length frames)) at s))
+      (λ t. all_read t held frames (file_read t (deeper_at t (most_depth - length frames)) e s))
   -- each of those is held
   pub are_open : AreOpen held frames
   -- one more file may be entered
@@ -93,7 +92,7 @@ pub record IsEntering {S : Type 0} (gives : S → ℕ → Result (List ℕ) Read
   -- each is a file of the project
   pub within : All (λ (o : Frame). o.at.file < length j.layout.paths) frames
   -- and so is this one
-  pub file_within : at.file < length j.layout.paths
+  pub file_within : e.at.file < length j.layout.paths
 
 -- the whole is over, with this outcome and these files
 pub record IsOver {S : Type 0} (gives : S → ℕ → Result (List ℕ) ReadFault → S → Type 0) (old new : S) (j : Job) (held : Held) (o : Outcome) : Type 0 where

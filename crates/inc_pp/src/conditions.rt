@@ -54,7 +54,7 @@ impl State {
     /// Whether the branch of a line is taken.
     pub(crate) fn takes(
         &mut self,
-        settings: &Settings,
+        settings: &Settings<'_>,
         headers: &HeaderSearch<'_>,
         lines: &FileLines,
         i: usize,
@@ -84,7 +84,7 @@ impl State {
     /// Whether the value of the operands of a line is not 0.
     fn is_true_at(
         &mut self,
-        settings: &Settings,
+        settings: &Settings<'_>,
         headers: &HeaderSearch<'_>,
         lines: &FileLines,
         i: usize,
@@ -103,6 +103,7 @@ impl State {
         // Lent anew, for as long as the macros.
         let lines = &*lines;
         let here = &*here;
+        let settings = &*settings;
         let tokens = lines.line(self.alloc, i)?;
         let around = Around {
             alloc: self.alloc,

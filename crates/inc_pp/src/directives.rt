@@ -19,10 +19,11 @@ ghost use Rattle.inc_pp.specs.Stops.{AreOf, IfStop, IsIn, IsUnder, halt_at};
 ghost use Rattle.inc_pp.specs.Tasks.{File};
 
 use crate::causes::Cause;
+use crate::entries::{Entry, entry_of};
 use crate::expansions::{Around, expanded};
 use crate::faults::Break;
 use crate::includes::sought;
-use crate::line_numbers::{Here, renumbered};
+use crate::line_numbers::{Here, Numbering, renumbered};
 use crate::lines::{after_first, first_line, operands};
 use crate::pragmas::{names_once, put_tokens};
 use crate::settings::Settings;
@@ -39,20 +40,20 @@ impl State {
     pub(crate) fn control(
         &mut self,
         project: &Project<'_>,
-        settings: &Settings,
+        settings: &Settings<'_>,
         lines: &FileLines,
         i: usize,
         at: &Found,
         nests: bool,
         here: &mut Here,
-    ) -> Result<Option<Found>, Break>
+    ) -> Result<Option<Entry>, Break>
         requires within { i < length lines.now }
         requires kinds { AreOf settings.now.language (lines_of_parts lines.now) }
         requires file { at.now.file < length project.now.paths }
         ensures done { IfOk result (λ found. (f : File) (l : FileLine) →
             IsIn project.now settings.now at.now nests f → slice_get lines.now i ≡ Some (DirectivePart l) →
             spec.control_read f l (state_of self.old) here.old ≡ included f.deeper found (state_of self.new) here.new) }
-        ensures within { IfOk result (λ found. IfSome found (λ k. (k.file < length project.now.paths) × (nests ≡ true))) }
+        ensures within { IfOk result (λ found. IfSome found (λ k. (k.at.file < length project.now.paths) × (nests ≡ true))) }
         ensures fits { IfOk result (λ found. IfSome found (λ _. length (state_of self.new).reads < most_reads)) }
         ensures reads { (state_of self.new).reads ≡ (state_of self.old).reads }
         ensures stop { IfErr result (λ fault. IfStop fault (λ line cause.
@@ -66,7 +67,8 @@ impl State {
                 let header = self.header(settings, lines, i, here, target)?;
                 let there = sought(self.alloc, project, at, by, &header)?;
                 let found = self.led_to(settings, nests, lines, i, by, &there)?;
-                Ok(found)
+                let entry = entry_of(self.alloc, project, settings, at, here, &header, found)?;
+                Ok(entry)
             }
             LineKind::Other(kind) => {
                 self.obey(settings, lines, i, at.file, kind, here)?;
@@ -79,7 +81,7 @@ impl State {
     /// Does what a directive says that is no include and of no section.
     fn obey(
         &mut self,
-        settings: &Settings,
+        settings: &Settings<'_>,
         lines: &FileLines,
         i: usize,
         file: FileId,
@@ -99,13 +101,15 @@ impl State {
     {
         match kind {
             DirectiveKind::Line => {
-                let after = self.renumbered(settings, lines, i, here)?;
-                *here = after;
+                let numbering = self.renumbered(settings, lines, i, here)?;
+                here.renumber(numbering);
                 Ok(())
             }
             kind => {
                 let tokens = lines.line(self.alloc, i)?;
+                let language = self.macros.language();
                 self.change(kind, &tokens, file, &here.marks(settings))?;
+                here.obey(kind, language, &tokens);
                 Ok(())
             }
         }
@@ -114,11 +118,11 @@ impl State {
     /// What `#line` or a line marker makes of the numbers of lines.
     fn renumbered(
         &mut self,
-        settings: &Settings,
+        settings: &Settings<'_>,
         lines: &FileLines,
         i: usize,
         here: &Here,
-    ) -> Result<Here, Break>
+    ) -> Result<Numbering, Break>
         requires within { i < length lines.now }
         ensures done { IfOk result (λ after. (l : FileLine) → slice_get lines.now i ≡ Some (DirectivePart l) →
             renumbered_at here.now l.last_line (place_under settings.now here.now) (table_of self.old.macros)
@@ -133,6 +137,7 @@ impl State {
         // Lent anew, for as long as the macros.
         let lines = &*lines;
         let here = &*here;
+        let settings = &*settings;
         let tokens = lines.line(self.alloc, i)?;
         let around = Around {
             alloc: self.alloc,
@@ -277,7 +282,7 @@ fn line_change<'a>(
     last: u32,
     tokens: &[Token<'a>],
     budget: &mut Budget,
-) -> Result<Here, Break>
+) -> Result<Numbering, Break>
     ensures done { IfOk result (λ after.
         renumbered_at here.now last (place_value around.now.place) (table_of around.now.macros.now)
         budget.old (map seen tokens.now) ≡ Ok (after, budget.new)) }

@@ -17,6 +17,7 @@ ghost use Rattle.inc_pp.specs.Tasks.{File};
 ghost use Rattle.inc_pp.specs.Walks.{lines_read};
 
 use crate::causes::Cause;
+use crate::entries::Entry;
 use crate::faults::Break;
 use crate::frames::Frame;
 use crate::guards::guard_name;
@@ -25,7 +26,7 @@ use crate::settings::Settings;
 use crate::states::State;
 use inc_directive::laws::sections_close;
 use inc_directive::{BalanceFault, FileLines, Plan, balance};
-use inc_lookup::{Found, Project};
+use inc_lookup::Project;
 use inc_macro::Macros;
 use inc_text::Text;
 use inc_token::{Language, LexFault};
@@ -100,10 +101,10 @@ impl HeldFile {
         &self,
         state: &mut State,
         project: &Project<'_>,
-        settings: &Settings,
+        settings: &Settings<'_>,
         frame: &mut Frame,
         nests: bool,
-    ) -> Result<Option<Found>, Break>
+    ) -> Result<Option<Entry>, Break>
         requires within { frame.old.part < length self.now }
         requires file { frame.old.at.file < length project.now.paths }
         requires kinds { AreOf settings.now.language (lines_of_parts self.now) }
@@ -113,7 +114,7 @@ impl HeldFile {
             found frame.new.part (state_of state.new) frame.new.here) }
         ensures onward { OnOk result (frame.old.part < frame.new.part) }
         ensures same { OnOk result (frame.new.at ≡ frame.old.at) }
-        ensures found { IfOk result (λ found. IfSome found (λ k. (k.file < length project.now.paths)
+        ensures found { IfOk result (λ found. IfSome found (λ k. (k.at.file < length project.now.paths)
             × (nests ≡ true) × (length (state_of state.new).reads < most_reads))) }
         ensures reads { (state_of state.new).reads ≡ (state_of state.old).reads }
         ensures stop { IfErr result (λ fault. IfStop fault (λ at cause. (f : File) →

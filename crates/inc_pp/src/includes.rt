@@ -37,7 +37,7 @@ impl State {
     /// The header that the target of an include directive names.
     pub(crate) fn header<'a>(
         &mut self,
-        settings: &Settings,
+        settings: &Settings<'_>,
         lines: &FileLines,
         i: usize,
         here: &Here,
@@ -76,7 +76,7 @@ impl State {
     /// The header that the tokens of an include directive name once they are expanded.
     fn expanded_header<'h>(
         &mut self,
-        settings: &Settings,
+        settings: &Settings<'_>,
         lines: &FileLines,
         i: usize,
         here: &Here,
@@ -95,6 +95,7 @@ impl State {
         // Lent anew, for as long as the macros.
         let lines = &*lines;
         let here = &*here;
+        let settings = &*settings;
         let tokens = lines.line(self.alloc, i)?;
         let around = Around {
             alloc: self.alloc,
@@ -110,7 +111,7 @@ impl State {
     /// The file that an include directive leads to which finds this one, or none. `nests`: includes may nest one deeper.
     pub(crate) fn led_to(
         &mut self,
-        settings: &Settings,
+        settings: &Settings<'_>,
         nests: bool,
         lines: &FileLines,
         i: usize,

@@ -1,31 +1,39 @@
 //! Names and numbers of lines (ISO/IEC 9899:2018, 6.10.4).
-ghost use Rattle.std.specs.Prelude.{◌≡◌, ◌*◌, ◌+◌, ◌&&◌, ℕ, Some, None, map, nat_le, if◌then◌else◌, IfOk, option_map};
+ghost use Rattle.std.specs.Prelude.{◌≡◌, ◌<◌, ◌*◌, ◌+◌, ◌&&◌, Some, bytes_eq, codes, length, None, map, nat_le, if◌then◌else◌, IfOk, option_map};
 ghost use Rattle.std.specs.List.{list_all};
 ghost use Rattle.inc_token.specs.Spellings.{is_digit};
-ghost use Rattle.inc_lookup.specs.Projects.{Layout, path_at};
+ghost use Rattle.inc_token.specs.Views.{seen};
 ghost use Rattle.inc_expand.specs.Items.{seen_item};
 ghost use Rattle.inc_expand.specs.Places.{place_value};
 ghost use Rattle.inc_cond.specs.Constants.{digit_of, number_in};
 ghost use Rattle.inc_pp.specs.Directives as spec;
+ghost use Rattle.inc_pp.specs.DirectiveSteps.{here_by};
 ghost use Rattle.inc_pp.specs.LineMarkers.{marks_of};
 ghost use Rattle.inc_pp.specs.Steps.{place_under};
 ghost use Rattle.inc_pp.specs.Tasks.{start};
 
+use crate::entries::{Entry, Standing};
 use crate::headers::is_plain_string;
+use crate::lines::operands;
 use crate::literals::literal_of;
+use crate::pragmas::is_gnu;
 use crate::settings::Settings;
+use inc_directive::DirectiveKind;
 use inc_expand::{Item, Place};
-use inc_token::{Kind, Language};
+use inc_lookup::Project;
+use inc_token::{Kind, Language, Token};
 use std::alloc::{AllocError, Global};
 use std::marker::Model;
 
-/// How lines of the file at hand are numbered, and what it is called.
+/// What is known of the file at hand.
 #[derive(Drop)]
 pub(crate) struct Here {
     /// Presumed minus physical line.
     pub(crate) shift: i64,
     /// The literal for `__FILE__`.
     pub(crate) name: Vec<u8>,
+    /// How it came to be read.
+    pub(crate) standing: Standing,
 }
 
 impl Model for Here {
@@ -33,33 +41,82 @@ impl Model for Here {
 
     ghost Value = { Here };
 
-    ghost view = { λ h. record { shift = h.shift; name = h.name.items } };
+    ghost view = { λ h. record { shift = h.shift; name = h.name.items; standing = h.standing } };
+}
+
+/// How lines are numbered, and what their file is called.
+#[derive(Drop)]
+pub(crate) struct Numbering {
+    /// Presumed minus physical line.
+    shift: i64,
+    /// The literal for `__FILE__`.
+    name: Vec<u8>,
+}
+
+impl Model for Numbering {
+    ghost use Rattle.inc_pp.specs.Directives.{Numbering};
+
+    ghost Value = { Numbering };
+
+    ghost view = { λ n. record { shift = n.shift; name = n.name.items } };
 }
 
 impl Here {
-    /// How a file with this path begins.
-    pub(crate) fn start(alloc: Global, path: &[u8]) -> Result<Here, AllocError>
-        ensures { (layout : Layout) (file : ℕ) → path.now ≡ path_at layout file →
-            IfOk result (λ here. here ≡ start layout file) }
+    /// How a file begins.
+    pub(crate) fn start(
+        alloc: Global,
+        project: &Project<'_>,
+        entry: Entry,
+    ) -> Result<Here, AllocError>
+        requires { entry.at.file < length project.now.paths }
+        ensures { IfOk result (λ here. here ≡ start project.now entry) }
     {
-        let name = literal_of(alloc, path)?;
-        Ok(Here { shift: 0, name })
+        let Entry { at, standing } = entry;
+        let name = literal_of(alloc, standing.path(project, at.file))?;
+        Ok(Here {
+            shift: 0,
+            name,
+            standing,
+        })
     }
 
     /// Where the tokens of the file are.
-    pub(crate) fn place<'h>(&'h self, settings: &Settings) -> Place<'h>
+    pub(crate) fn place<'h>(&'h self, settings: &'h Settings<'h>) -> Place<'h>
         ensures { place_value result ≡ place_under settings.now self.now }
     {
         Place {
             name: &self.name,
+            base: settings.base(),
             shift: self.shift,
+            level: self.standing.level(),
+            is_system: self.standing.is_system(),
             date: settings.date(),
             time: settings.time(),
+            timestamp: settings.timestamp(),
+        }
+    }
+
+    /// Has the lines that follow numbered so.
+    pub(crate) fn renumber(&mut self, numbering: Numbering)
+        ensures { self.new ≡ spec.with_numbering numbering self.old }
+    {
+        let Numbering { shift, name } = numbering;
+        self.shift = shift;
+        self.name = name;
+    }
+
+    /// Takes what a directive of no section says of the lines that follow in the file: `#line` is not among these.
+    pub(crate) fn obey(&mut self, kind: DirectiveKind, language: Language, tokens: &[Token<'_>])
+        ensures { self.new ≡ here_by kind language (map seen tokens.now) self.old }
+    {
+        if let DirectiveKind::Pragma = kind {
+            self.standing
+                .note_system(names_system(language, operands(tokens)));
         }
     }
 
     /// The same where lines are marked; else `None`.
-    pub(crate) fn marks<'h>(&'h self, settings: &Settings) -> Option<Place<'h>>
+    pub(crate) fn marks<'h>(&'h self, settings: &'h Settings<'h>) -> Option<Place<'h>>
         ensures { option_map place_value result ≡ marks_of settings.now (place_under settings.now self.now) }
     {
         if settings.has_markers() {
@@ -70,14 +127,14 @@ impl Here {
     }
 }
 
-/// What `#line` with these tokens makes of it, in a directive whose last line is the given one.
+/// How lines are numbered after a `#line` with these tokens, in a directive whose last line is the given one.
 pub(crate) fn renumbered(
     alloc: Global,
     language: Language,
     here: &Here,
     last: u32,
     items: &[Item<'_>],
-) -> Result<Option<Here>, AllocError>
+) -> Result<Option<Numbering>, AllocError>
     ensures { IfOk result (λ after. after
         ≡ spec.renumbered language here.now last (map seen_item items.now)) }
 {
@@ -91,10 +148,31 @@ pub(crate) fn renumbered(
         return Ok(None);
     };
     let name = Vec::from_slice(alloc, name)?;
-    Ok(Some(Here {
+    Ok(Some(Numbering {
         shift: i64::from(line) - (i64::from(last) + 1),
         name,
     }))
+}
+
+/// Whether the operands of a pragma are those of `#pragma GCC system_header` in GNU C.
+fn names_system(language: Language, tokens: &[Token<'_>]) -> bool
+    ensures { result ≡ spec.names_system language (map seen tokens.now) }
+{
+    match tokens {
+        [first, second, ..] => {
+            is_gnu(language)
+                && first.spelling == b"GCC".as_slice()
+                && is_system_header(second.spelling)
+        }
+        _ => false,
+    }
+}
+
+/// Whether a name is that of the pragma.
+fn is_system_header(name: &[u8]) -> bool
+    ensures { result ≡ bytes_eq name.now (codes "system_header") }
+{
+    name == b"system_header".as_slice()
 }
 
 /// The name that `#line` gives by the tokens after its number.

@@ -11,6 +11,7 @@ ghost use Rattle.inc_pp.specs.Tasks.{File};
 ghost use Rattle.inc_pp.specs.Tasks as spec;
 ghost use Rattle.inc_pp.specs.Walks.{lines_read};
 
+use crate::entries::Entry;
 use crate::faults::Break;
 use crate::frames::Frame;
 use crate::line_numbers::Here;
@@ -18,7 +19,7 @@ use crate::settings::Settings;
 use crate::states::State;
 use inc_cond::HeaderSearch;
 use inc_directive::{FileLines, Plan, Role};
-use inc_lookup::{Found, Project};
+use inc_lookup::Project;
 
 /// The part that a section leads to which this part opens: the first of the first group whose condition is true, or the one
 /// after the `#endif`.
@@ -26,7 +27,7 @@ fn choose(
     lines: &FileLines,
     plan: &Plan,
     state: &mut State,
-    settings: &Settings,
+    settings: &Settings<'_>,
     headers: &HeaderSearch<'_>,
     part: usize,
     here: &Here,
@@ -85,7 +86,7 @@ fn end_of(lines: &FileLines, plan: &Plan, part: usize) -> usize
 fn read_run(
     lines: &FileLines,
     state: &mut State,
-    settings: &Settings,
+    settings: &Settings<'_>,
     frame: &mut Frame,
 ) -> Result<(), Break>
     requires within { frame.old.part < length lines.now }
@@ -120,10 +121,10 @@ fn read_control(
     lines: &FileLines,
     state: &mut State,
     project: &Project<'_>,
-    settings: &Settings,
+    settings: &Settings<'_>,
     frame: &mut Frame,
     nests: bool,
-) -> Result<Option<Found>, Break>
+) -> Result<Option<Entry>, Break>
     requires control { (p : FilePart) → slice_get lines.now frame.old.part ≡ Some p →
         part_role p ≡ ControlLine }
     requires within { frame.old.part < length lines.now }
@@ -135,7 +136,7 @@ fn read_control(
         found frame.new.part (state_of state.new) frame.new.here) }
     ensures onward { OnOk result (frame.old.part < frame.new.part) }
     ensures same { OnOk result (frame.new.at ≡ frame.old.at) }
-    ensures found { IfOk result (λ found. IfSome found (λ k. (k.file < length project.now.paths)
+    ensures found { IfOk result (λ found. IfSome found (λ k. (k.at.file < length project.now.paths)
         × (nests ≡ true) × (length (state_of state.new).reads < most_reads))) }
     ensures reads { (state_of state.new).reads ≡ (state_of state.old).reads }
     ensures stop { IfErr result (λ fault. IfStop fault (λ at cause. (f : File) →
@@ -162,10 +163,10 @@ pub(crate) fn read_on(
     plan: &Plan,
     state: &mut State,
     project: &Project<'_>,
-    settings: &Settings,
+    settings: &Settings<'_>,
     frame: &mut Frame,
     nests: bool,
-) -> Result<Option<Found>, Break>
+) -> Result<Option<Entry>, Break>
     requires planned { IsPlanned lines.now plan.now }
     requires within { frame.old.part < length lines.now }
     requires file { frame.old.at.file < length project.now.paths }
@@ -176,7 +177,7 @@ pub(crate) fn read_on(
         found frame.new.part (state_of state.new) frame.new.here) }
     ensures onward { OnOk result (frame.old.part < frame.new.part) }
     ensures same { OnOk result (frame.new.at ≡ frame.old.at) }
-    ensures found { IfOk result (λ found. IfSome found (λ k. (k.file < length project.now.paths)
+    ensures found { IfOk result (λ found. IfSome found (λ k. (k.at.file < length project.now.paths)
         × (nests ≡ true) × (length (state_of state.new).reads < most_reads))) }
     ensures reads { (state_of state.new).reads ≡ (state_of state.old).reads }
     ensures stop { IfErr result (λ fault. IfStop fault (λ at cause. (f : File) →

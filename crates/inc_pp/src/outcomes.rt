@@ -3,7 +3,7 @@ ghost use Rattle.std.specs.Prelude.{◌≡◌, ◌≢◌, ◌<◌, ℕ, List, So
 ghost use Rattle.inc_text.specs.declared.devices.ReadFault.{ReadFault};
 ghost use Rattle.inc_lookup.specs.Given.{Given, HoldsOfGiven, FailsAfter};
 ghost use Rattle.inc_lookup.specs.Projects.{Listing};
-ghost use Rattle.inc_pp.specs.Preprocessing.{preprocessing};
+ghost use Rattle.inc_pp.specs.Preprocessing.{named_settings, preprocessing};
 ghost use Rattle.inc_pp.specs.Printed.{printed};
 ghost use Rattle.inc_pp.specs.Readings.{IsOutcome, IsNextRead, IsNextReadAfter};
 ghost use Rattle.inc_macro.specs.Tables.{table_of};
@@ -149,7 +149,7 @@ pub fn preprocess<S: Sources>(
     sources: &mut S,
     source: FileId,
     words: &[&[u8]],
-    settings: &Settings,
+    settings: &Settings<'_>,
     without: &[DirectiveId],
 ) -> Result<Outcome, PpRefusal>
     requires source { source < length project.now.paths }
@@ -226,7 +226,30 @@ pub fn preprocess_with<S: Sources>(
         ) => return Err(PpRefusal::NoMemory),
         Err(WordFault { index, fault }) => return Err(PpRefusal::BadDefinition { index, fault }),
     };
-    preprocess_in(job, sources, files, source, macros)
+    let settings = named_settings(job.project, job.settings, source);
+    let named = Job {
+        alloc: job.alloc,
+        project: job.project,
+        settings: &settings,
+        removed: job.removed,
+    };
+    preprocess_in(&named, sources, files, source, macros)
+}
+
+/// The settings with a name of the source: its path in the list, where they have none.
+fn named_settings<'n>(
+    project: &'n Project<'_>,
+    settings: &Settings<'n>,
+    source: FileId,
+) -> Settings<'n>
+    requires { source < length project.now.paths }
+    ensures { result ≡ named_settings project.now source settings.now }
+{
+    let name = match settings.source() {
+        Some(name) => name,
+        None => project.path(source),
+    };
+    settings.with_source(name)
 }
 
 /// The same, with the macros of the words.

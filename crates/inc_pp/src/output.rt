@@ -233,7 +233,11 @@ impl Output {
         let number = buffer.format(place.presumed_line(language, line));
         self.push(Kind::Punct, b"#", true)?;
         self.push(Kind::Number, number.as_bytes(), false)?;
-        self.push(Kind::Str, place.name, false)
+        self.push(Kind::Str, place.name, false)?;
+        if place.is_system {
+            self.push(Kind::Number, b"3", false)?;
+        }
+        Ok(())
     }
 
     /// Puts tokens of a source out, with no new line between them. `first`: the first of them begins a line.

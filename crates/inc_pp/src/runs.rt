@@ -20,7 +20,7 @@ impl State {
     /// Expands text lines of a file as one list, from one part up to another, and puts the tokens out.
     pub(crate) fn put_run(
         &mut self,
-        settings: &Settings,
+        settings: &Settings<'_>,
         lines: &FileLines,
         from: usize,
         to: usize,
@@ -44,6 +44,7 @@ impl State {
         // Lent anew, for as long as the macros.
         let lines = &*lines;
         let here = &*here;
+        let settings = &*settings;
         let tokens = lines.run(self.alloc, from, to)?;
         let around = Around {
             alloc: self.alloc,

@@ -1,5 +1,5 @@
 //! What the caller of a preprocessing sets.
-ghost use Rattle.std.specs.Prelude.{◌≡◌, Some, None, if◌then◌else◌, ◌&&◌};
+ghost use Rattle.std.specs.Prelude.{◌≡◌, Some, None, if◌then◌else◌, ◌&&◌, option_map};
 ghost use Rattle.std.specs.List.{list_all};
 ghost use Rattle.inc_pp.specs.Settings as spec;
 
@@ -15,73 +15,141 @@ pub enum Missing {
     Empty,
 }
 
-/// Language, date and time, what an include directive does whose header is not found, and whether lines are marked.
-#[derive(Clone, Copy, Debug)]
-pub struct Settings {
+/// A directory of the include path, as the user knows it.
+#[derive(Drop)]
+pub struct ShownDir<'d> {
+    /// As it is spelled.
+    pub name: &'d [u8],
+    /// Whether its headers are the system's.
+    pub is_system: bool,
+}
+
+impl<'d> Model for ShownDir<'d> {
+    ghost use Rattle.inc_pp.specs.Settings.{ShownDir};
+
+    ghost Value = { ShownDir };
+
+    ghost view = { λ d. record { name = d.name.now; is_system = d.is_system } };
+}
+
+/// Language, date and time, what an include directive does whose header is not found, whether lines are marked, and how files are called.
+#[derive(Drop)]
+pub struct Settings<'n> {
     language: Language,
     date: [u8; 11],
     time: [u8; 8],
+    timestamp: [u8; 24],
     missing: Missing,
     has_markers: bool,
+    source: Option<&'n [u8]>,
+    dirs: &'n [ShownDir<'n>],
 }
 
-impl Model for Settings {
+impl<'n> Model for Settings<'n> {
+    ghost use Rattle.std.specs.Prelude.{option_map};
     ghost use Rattle.inc_pp.specs.Settings.{Settings};
 
     ghost Value = { Settings };
 
-    ghost view = { λ s. record { language = s.language; date = s.date; time = s.time; missing = s.missing; has_markers = s.has_markers } };
-
-    ghost inverse = { λ s. record { language = s.language; date = s.date; time = s.time; missing = s.missing; has_markers = s.has_markers } };
+    ghost view = { λ s. record {
+      language = s.language;
+      date = s.date;
+      time = s.time;
+      timestamp = s.timestamp;
+      missing = s.missing;
+      has_markers = s.has_markers;
+      source = option_map (λ n. n.now) s.source;
+      dirs = s.dirs.now;
+    } };
 }
 
-impl Settings {
-    /// Without line markers; `None` where a byte of the date or the time is not printable ASCII, or is `"` or `\`.
+impl<'n> Settings<'n> {
+    /// Without line markers, and without names of the source and of directories; `None` where a byte of the date, the time or the
+    /// timestamp is not printable ASCII, or is `"` or `\`.
     pub fn new(
         language: Language,
         date: [u8; 11],
         time: [u8; 8],
+        timestamp: [u8; 24],
         missing: Missing,
-    ) -> Option<Settings>
-        ensures { result ≡ spec.settings_of language date time missing }
+    ) -> Option<Settings<'n>>
+        ensures { result ≡ spec.settings_of language date time timestamp missing }
     {
-        if !are_date_bytes(&date) || !are_date_bytes(&time) {
+        if !are_date_bytes(&date) || !are_date_bytes(&time) || !are_date_bytes(&timestamp) {
             return None;
         }
         Some(Settings {
             language,
             date,
             time,
+            timestamp,
             missing,
             has_markers: false,
+            source: None,
+            dirs: &[],
         })
     }
 
-    /// The date `Jan  1 1970` and the time `00:00:00`, without line markers.
-    pub fn usual(language: Language, missing: Missing) -> Settings
+    /// The date `Jan  1 1970`, the time `00:00:00` and the timestamp of both, without line markers and names.
+    pub fn usual(language: Language, missing: Missing) -> Settings<'n>
         ensures { result ≡ spec.usual_settings language missing }
     {
         Settings {
             language,
             date: *b"Jan  1 1970",
             time: *b"00:00:00",
+            timestamp: *b"Thu Jan  1 00:00:00 1970",
             missing,
             has_markers: false,
+            source: None,
+            dirs: &[],
         }
     }
 
-    /// The same, with line markers or without: lines `# LINE "FILE"`, which say what line of what file the next one is from. A compiler
-    /// goes on with a text that has them as with the file itself.
-    pub fn with_markers(&self, has_markers: bool) -> Settings
-        ensures { result ≡ spec.marked_settings has_markers self.now }
+    /// The same, but for these.
+    fn with(
+        &self,
+        has_markers: bool,
+        source: Option<&'n [u8]>,
+        dirs: &'n [ShownDir<'n>],
+    ) -> Settings<'n>
+        ensures { result ≡ record self.now { has_markers = has_markers; source = option_map (λ n. n.now) source.entry; dirs = dirs.now } }
     {
         Settings {
             language: self.language,
             date: self.date,
             time: self.time,
+            timestamp: self.timestamp,
             missing: self.missing,
             has_markers,
+            source,
+            dirs,
         }
+    }
+
+    /// The same, with line markers or without: lines `# LINE "FILE"`, which say what line of what file the next one is from. A compiler
+    /// goes on with a text that has them as with the file itself.
+    pub fn with_markers(&self, has_markers: bool) -> Settings<'n>
+        ensures { result ≡ spec.marked_settings has_markers self.now }
+    {
+        self.with(has_markers, self.source, self.dirs)
+    }
+
+    /// The same, with the path by which the source is named: GNU C calls it and the headers beside it by that. Without one it is called
+    /// by its path in the list of files.
+    pub fn with_source(&self, source: &'n [u8]) -> Settings<'n>
+        ensures { result ≡ spec.sourced_settings source.now self.now }
+    {
+        self.with(self.has_markers, Some(source), self.dirs)
+    }
+
+    /// The same, with the directories of the include path, one for each that the project has, in its order. GNU C calls the headers
+    /// in them by their names; markers say which lines are of a system header, in each language. A header of a directory that is not
+    /// among them is called by its path in the list of files, and is none of the system's.
+    pub fn with_dirs(&self, dirs: &'n [ShownDir<'n>]) -> Settings<'n>
+        ensures { result ≡ spec.found_in_settings dirs.now self.now }
+    {
+        self.with(self.has_markers, self.source, dirs)
     }
 
     /// The language.
@@ -105,6 +173,13 @@ impl Settings {
         self.time
     }
 
+    /// The timestamp.
+    pub(crate) fn timestamp(&self) -> [u8; 24]
+        ensures { result ≡ self.now.timestamp }
+    {
+        self.timestamp
+    }
+
     /// What an include directive does whose header is not found.
     pub fn missing(&self) -> Missing
         ensures { result ≡ self.now.missing }
@@ -117,6 +192,30 @@ impl Settings {
         ensures { result ≡ self.now.has_markers }
     {
         self.has_markers
+    }
+
+    /// The path by which the source is named, if there is one.
+    pub(crate) fn source(&self) -> Option<&'n [u8]>
+        ensures { option_map (λ n. n.now) result ≡ self.now.source }
+    {
+        self.source
+    }
+
+    /// What the source is called, where there is a name for it.
+    pub(crate) fn base(&self) -> &'n [u8]
+        ensures { result.now ≡ spec.base_of self.now }
+    {
+        match self.source {
+            Some(source) => source,
+            None => &[],
+        }
+    }
+
+    /// The directories of the include path.
+    pub(crate) fn dirs(&self) -> &'n [ShownDir<'n>]
+        ensures { result.now ≡ self.now.dirs }
+    {
+        self.dirs
     }
 }
 

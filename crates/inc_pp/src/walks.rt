@@ -11,13 +11,14 @@ ghost use Rattle.inc_pp.specs.HeldFiles.{IsSkipped};
 ghost use Rattle.inc_pp.specs.WalkStates.{IsWalk, IsEntering, IsOver, EndsBy};
 ghost use Rattle.inc_pp.specs.Tasks.{begun};
 
+use crate::entries::Entry;
 use crate::faults::Break;
 use crate::files::Files;
 use crate::frames::Frame;
 use crate::line_numbers::Here;
 use crate::settings::Settings;
 use crate::states::State;
-use inc_lookup::{DirectiveSet, FileId, Found, Project, Sources};
+use inc_lookup::{DirectiveSet, FileId, Project, Sources};
 use inc_macro::Macros;
 use std::alloc::{AllocError, Global};
 
@@ -30,24 +31,21 @@ pub struct Job<'j, 'r> {
     pub alloc: Global,
     pub project: &'j Project<'j>,
     /// Language, date and time, and what an include directive does whose header is not found.
-    pub settings: &'j Settings,
+    pub settings: &'j Settings<'j>,
     /// The include directives that are taken as removed.
     pub removed: &'j DirectiveSet<'r>,
 }
 
 impl<'j, 'r> Job<'j, 'r> {
     /// Puts a file on top of those that are being read, at its first part.
-    fn open(&self, frames: &mut Vec<Frame>, at: &Found) -> Result<(), AllocError>
-        requires within { at.now.file < length self.now.project.now.paths }
+    fn open(&self, frames: &mut Vec<Frame>, to: Entry) -> Result<(), AllocError>
+        requires within { to.at.file < length self.now.project.now.paths }
         ensures { OnOk result (frames.new.items ≡ frames.old.items
-            ++ first_frame self.now.project.now at.now ∷ []) }
+            ++ first_frame self.now.project.now to ∷ []) }
     {
-        let here = Here::start(self.alloc, self.project.path(at.file))?;
-        frames.push(Frame {
-            at: *at,
-            part: 0,
-            here,
-        })?;
+        let at = to.at;
+        let here = Here::start(self.alloc, self.project, to)?;
+        frames.push(Frame { at, part: 0, here })?;
         Ok(())
     }
 
@@ -59,29 +57,30 @@ impl<'j, 'r> Job<'j, 'r> {
         state: &mut State,
         frames: &mut Vec<Frame>,
         at_hand: &mut FileId,
-        at: &Found,
+        to: Entry,
     ) -> Result<(), Break>
-        requires within { at.now.file < length self.now.project.now.paths }
+        requires within { to.at.file < length self.now.project.now.paths }
         requires wide { length files.old ≡ length self.now.project.now.paths }
         ensures entered { OnOk result ((origin : S) (source : ℕ) (table : Table) (earlier : List Given) →
             IsEntering S.gives origin sources.old (job_in self.now source table earlier) files.old
-            (reverse frames.old.items) at.now (state_of state.old) →
+            (reverse frames.old.items) to (state_of state.old) →
             IsWalk S.gives origin sources.new (job_in self.now source table earlier) files.new
             (reverse frames.new.items) (state_of state.new)) }
         ensures wide { OnOk result (length files.new ≡ length files.old) }
-        ensures reads { OnOk result ((state_of state.new).reads ≡ (state_of state.old).reads ++ at.now.file ∷ []) }
+        ensures reads { OnOk result ((state_of state.new).reads ≡ (state_of state.old).reads ++ to.at.file ∷ []) }
         ensures left { OnOk result ((origin : S) (source : ℕ) (table : Table) (earlier : List Given) →
             IsEntering S.gives origin sources.old (job_in self.now source table earlier) files.old
-            (reverse frames.old.items) at.now (state_of state.old) →
+            (reverse frames.old.items) to (state_of state.old) →
             frames_left files.new (reverse frames.new.items)
             ≤ frames_left files.old (reverse frames.old.items) + 18_446_744_073_709_551_617) }
         ensures over { IfErr result (λ end. (origin : S) (source : ℕ) (table : Table) (earlier : List Given) →
             IsEntering S.gives origin sources.old (job_in self.now source table earlier) files.old
-            (reverse frames.old.items) at.now (state_of state.old) →
+            (reverse frames.old.items) to (state_of state.old) →
             EndsBy S.gives origin sources.new (job_in self.now source table earlier) files.new
             (state_of state.new) at_hand.new end) }
     {
         let _few = self.project.count();
+        let at = to.at;
         let file = at.file;
         *at_hand = file;
         state.add_read(file)?;
@@ -89,7 +88,7 @@ impl<'j, 'r> Job<'j, 'r> {
             return Ok(());
         }
         if files.get(file).is_some() {
-            self.open(frames, at)?;
+            self.open(frames, to)?;
             let _parts = count_in(files, file);
             return Ok(());
         }
@@ -101,7 +100,7 @@ impl<'j, 'r> Job<'j, 'r> {
             Ok(()) => {}
             Err(why) => return Err(why),
         }
-        self.open(frames, at)?;
+        self.open(frames, to)?;
         let _parts = count_in(files, file);
         Ok(())
     }
@@ -153,7 +152,7 @@ impl<'j, 'r> Job<'j, 'r> {
         };
         frames.push(frame)?;
         match found {
-            Some(to) => self.enter(sources, files, state, frames, at_hand, &to),
+            Some(to) => self.enter(sources, files, state, frames, at_hand, to),
             None => Ok(()),
         }
     }
@@ -183,12 +182,8 @@ impl<'j, 'r> Job<'j, 'r> {
             (state_of state.new) at_hand.new end) }
     {
         let mut frames = Vec::new(self.alloc);
-        // No search has found the source.
-        let at = Found {
-            file: source,
-            next: None,
-        };
-        match self.enter(sources, files, state, &mut frames, at_hand, &at) {
+        let at = Entry::source(self.alloc, self.settings, source)?;
+        match self.enter(sources, files, state, &mut frames, at_hand, at) {
             Ok(()) => {}
             Err(end) => return Err(end),
         }

@@ -15,11 +15,12 @@ use Rattle.inc_pp.specs.Readings.{IsNextReadAfter, IsOfReadsAfter}
 use Rattle.inc_pp.specs.declared.outcomes.PpRefusal.{PpRefusal}
 use Rattle.inc_pp.specs.declared.outcomes.PpRefusal.TheVariants as pp
 use Rattle.inc_pp.specs.Refusals.{IfBadDefinition}
-use Rattle.inc_pp.specs.Shared.{IsSharedOutcome}
+use Rattle.inc_pp.specs.Settings.{Settings, sourced_settings}
+use Rattle.inc_pp.specs.Shared.{AreShared, IsSharedOutcome}
 use Rattle.inc_pp.specs.Walks.{Held}
 use Rattle.inc_report.specs.declared.pp.NoOutcome.TheVariants.{Refused}
 use Rattle.inc_report.specs.NoOutcomes.{IsRefusedPp, stop_line, stop_end}
-use Rattle.inc_report.specs.PpSteps.{Common, AreSharedBy, IsSection, FailsIn, under}
+use Rattle.inc_report.specs.PpSteps.{Common, IsSection, FailsIn, under}
 use Rattle.inc_report.specs.PpText.{define_number, outcome_printed, stop_text}
 use Rattle.inc_report.specs.PpTexts.{Section, section, section_at, section_of, title}
 use Rattle.inc_report.specs.Printed.{Printed, answered, end_of, negative}
@@ -51,14 +52,14 @@ pub read-none : (earlier : List Given) → IsOnce earlier → IsOfReadsAfter ear
 read-none earlier once = record { later = []; is = refl; only = All-nil (λ (g : Given). Contains [] g.file); each = λ i c. absurd (omega (arith, c.1)); once = once }
 
 module _ (c : Common) (source : List ℕ) (listing : Listing) (laid : layout_of listing ≡ c.layout) where
-  found : (o : Option ℕ) → file_at c.layout source ≡ o → section listing c.words c.settings c.without source ≡ section_at listing c.words c.settings c.without o
-  found o is = ap (λ (x : Option ℕ). section_at listing c.words c.settings c.without x) (ap (λ (l : Layout). file_at l source) laid ∙ is)
+  found : (o : Option ℕ) → file_at c.layout source ≡ o → section listing c.words c.settings c.without source ≡ section_at listing c.words c.settings c.without source o
+  found o is = ap (λ (x : Option ℕ). section_at listing c.words c.settings c.without source x) (ap (λ (l : Layout). file_at l source) laid ∙ is)
 
   found_answer : (file : ℕ) (answer : Result Outcome (ℕ × DefineFault)) → file_at c.layout source ≡ Some file
-      → preprocessing listing file c.words c.settings c.without ≡ answer → section listing c.words c.settings c.without source ≡ section_of c.layout answer
+      → preprocessing listing file c.words (sourced_settings source c.settings) c.without ≡ answer → section listing c.words c.settings c.without source ≡ section_of c.layout answer
   found_answer file answer there is =
       found (Some file) there
-      ∙ ap (λ (l : Layout). section_of l (preprocessing listing file c.words c.settings c.without)) laid
+      ∙ ap (λ (l : Layout). section_of l (preprocessing listing file c.words (sourced_settings source c.settings) c.without)) laid
       ∙ ap (λ (r : Result Outcome (ℕ × DefineFault)). section_of c.layout r) is
 
 module _ {S : Type 0} (gives : S → ℕ → Result (List ℕ) ReadFault → S → Type 0) (old new : S) (c : Common) (before after : Held) (titles : Bool) (source : List ℕ) where
@@ -81,23 +82,25 @@ module _ {S : Type 0} (gives : S → ℕ → Result (List ℕ) ReadFault → S �
       (section_unread (record { printed = refusal NoSuchSource; reads = [] }) refl still held (λ listing laid. found c source listing laid None none))
 
   -- a refusal that is printed is that of a word
-  pub of_refusal : (p q : Printed) (file : ℕ) (fault : PpRefusal) → file_at c.layout source ≡ Some file
-      → IfBadDefinition fault (λ index why. (new ≡ old) × (after ≡ before) × ((listing : Listing) → preprocessing listing file c.words c.settings c.without ≡ Err (index, why)))
+  pub of_refusal : (p q : Printed) (file : ℕ) (fault : PpRefusal) (settings : Settings) → settings ≡ sourced_settings source c.settings → file_at c.layout source ≡ Some file
+      → IfBadDefinition fault (λ index why. (new ≡ old) × (after ≡ before) × ((listing : Listing) → preprocessing listing file c.words settings c.without ≡ Err (index, why)))
       → IsRefusedPp (Refused fault) q → p ≡ under (title titles source) q → IsSection gives old new c before after titles source p
-  of_refusal p q file (pp.BadDefinition index why) there bad says is =
+  of_refusal p q file (pp.BadDefinition index why) settings named there bad says is =
       subst (λ (x : Printed). IsSection gives old new c before after titles source x) (sym (is ∙ ap (λ (x : Printed). under (title titles source) x) says))
       (section_unread (record { printed = refusal (BadDefinition index (define_number why)); reads = [] }) refl bad.0 bad.1
-      (λ listing laid. found_answer c source listing laid file (Err (index, why)) there (bad.2 listing)))
-  of_refusal p q file (pp.CannotRead other) there bad says is = absurd says
-  of_refusal p q file (pp.FileTooLong other) there bad says is = absurd says
-  of_refusal p q file pp.NoMemory there bad says is = absurd says
+      (λ listing laid. found_answer c source listing laid file (Err (index, why)) there
+      (ap (λ (st : Settings). preprocessing listing file c.words st c.without) (sym named) ∙ bad.2 listing)))
+  of_refusal p q file (pp.CannotRead other) settings named there bad says is = absurd says
+  of_refusal p q file (pp.FileTooLong other) settings named there bad says is = absurd says
+  of_refusal p q file pp.NoMemory settings named there bad says is = absurd says
 
-  pub of_outcome : (p : Printed) (file : ℕ) (outcome : Outcome) → file_at c.layout source ≡ Some file → p ≡ under (title titles source) (outcome_printed c.layout outcome)
-      → ((first : S) (earlier : List Given) → AreSharedBy gives first old c before earlier
-      → IsSharedOutcome gives first new c.layout earlier file c.words c.settings c.without after outcome)
+  pub of_outcome : (p : Printed) (file : ℕ) (outcome : Outcome) (settings : Settings) → settings ≡ sourced_settings source c.settings → file_at c.layout source ≡ Some file → p ≡ under (title titles source) (outcome_printed c.layout outcome)
+      → ((first : S) (earlier : List Given) → AreShared gives first old c.layout settings.language c.without before earlier
+      → IsSharedOutcome gives first new c.layout earlier file c.words settings c.without after outcome)
       → IsSection gives old new c before after titles source p
-  of_outcome p file outcome there is made = λ first earlier shared.
-      let m = made first earlier shared in
+  of_outcome p file outcome settings named there is made = λ first earlier shared.
+      let m = subst (λ (st : Settings). (x : S) (given : List Given) → AreShared gives x old c.layout st.language c.without before given
+      → IsSharedOutcome gives x new c.layout given file c.words st c.without after outcome) named made first earlier shared in
       let same = λ (listing : Listing) (laid : layout_of listing ≡ c.layout) (agrees : Agrees m.given listing).
       found_answer c source listing laid file (Ok outcome) there (m.every listing laid agrees).is in
       record {
@@ -110,12 +113,13 @@ module _ {S : Type 0} (gives : S → ℕ → Result (List ℕ) ReadFault → S �
 
 -- a file is not read for it
 pub of_next : {S : Type 0} (gives : S → ℕ → Result (List ℕ) ReadFault → S → Type 0) (old new : S) (c : Common) (before : Held) (source : List ℕ) (file : ℕ) (r : ℕ × ReadFault)
-    → file_at c.layout source ≡ Some file
-    → ((first : S) (earlier : List Given) → AreSharedBy gives first old c before earlier
-    → FailsAfter gives first new c.layout r.0 r.1 (IsNextReadAfter earlier file c.words c.settings c.without r.0))
+    (settings : Settings) → settings ≡ sourced_settings source c.settings → file_at c.layout source ≡ Some file
+    → ((first : S) (earlier : List Given) → AreShared gives first old c.layout settings.language c.without before earlier
+    → FailsAfter gives first new c.layout r.0 r.1 (IsNextReadAfter earlier file c.words settings c.without r.0))
     → FailsIn gives old new c before source r
-of_next gives old new c before source file r there fails = λ first earlier shared.
-    let f = fails first earlier shared in
+of_next {S} gives old new c before source file r settings named there fails = λ first earlier shared.
+    let f = subst (λ (st : Settings). (x : S) (given : List Given) → AreShared gives x old c.layout st.language c.without before given
+    → FailsAfter gives x new c.layout r.0 r.1 (IsNextReadAfter given file c.words st c.without r.0)) named fails first earlier shared in
     record {
       state = f.state;
       before = given_all f.before (λ given listing laid next. record {

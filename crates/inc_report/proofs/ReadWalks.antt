@@ -1,7 +1,7 @@
 -- Where each include line of a near file leads to a near file, or begins with a name that no line of a near file defines, a preprocessing
 -- that begins near reads near files alone. A file is near by how it was found.
 use Rattle.std.proofs.Common.{◌≡◌, ◌≢◌, refl, sym, ◌∙◌, ℕ, zero, suc, Bool, true, false, cond, List, [], ◌∷◌, Option, Some, None, Result, Ok, Err, IfOk, length, drop}
-use Rattle.std.specs.Prelude.{IfSome, nat_le}
+use Rattle.std.specs.Prelude.{IfSome, nat_le, option_map}
 use Rattle.std.proofs.lemmas.Result.{IfOk-at_ok}
 use Rattle.inc_directive.specs.Groups.{FileLine, Group, Branches, Empty, Run, Control, Section, Branch, Otherwise, Close, lines_of, lines_of_branches}
 use Rattle.inc_directive.specs.LineKinds.{LineKind, Text, Include, Other, Target, Quoted, Angled, ByName, Computed, Nothing, defined_name, line_of_tokens, search_after}
@@ -14,7 +14,7 @@ use Rattle.inc_lookup.specs.declared.projects.DirectiveId.{DirectiveId}
 use Rattle.inc_lookup.specs.declared.projects.Form.{Form}
 use Rattle.inc_lookup.specs.declared.projects.Form.TheVariants as form
 use Rattle.inc_lookup.specs.declared.projects.Found.{Found}
-use Rattle.inc_lookup.specs.Projects.{Listing, found_place, path_at}
+use Rattle.inc_lookup.specs.Projects.{Listing, found_place, layout_of, path_at}
 use Rattle.inc_macro.specs.Macros.{Table, define, no_macros, undef, with_words}
 use Rattle.inc_macro.specs.Results.{◌>>=◌}
 use Rattle.inc_macro.proofs.UndefinedNames.{Lacks, define_lacks, first_spelling, undef_lacks}
@@ -26,11 +26,12 @@ use Rattle.inc_pp.specs.declared.settings.Missing.{Missing}
 use Rattle.inc_pp.specs.declared.settings.Missing.TheVariants as missing
 use Rattle.inc_pp.specs.Directives.{line_operands, names_once, changed, control_of}
 use Rattle.inc_pp.specs.Files.{FileFault, tree_of}
-use Rattle.inc_pp.specs.Includes.{Header, after_found, found_from, header_of, is_done, is_import, not_found, wanted, led_to, include_target, included}
-use Rattle.inc_pp.specs.Preprocessing.{Outcome, group_read, section_read, tree_read, file_read, reading, most_depth, outcome_of, with_read, preprocessing}
+use Rattle.inc_pp.specs.Includes.{Header, after_found, found_from, header_of, is_done, is_import, not_found, wanted, led_to, entered, include_target, included}
+use Rattle.inc_pp.specs.Preprocessing.{Outcome, group_read, section_read, tree_read, file_read, reading, most_depth, named_settings, outcome_of, with_read, preprocessing}
 use Rattle.inc_pp.specs.Runs.{expanded, run_put, run_read}
 use Rattle.inc_pp.specs.Sections.{condition_of, operands}
 use Rattle.inc_pp.specs.Settings.{Settings}
+use Rattle.inc_pp.specs.Entries.{FileToRead}
 use Rattle.inc_pp.specs.Tasks.{Task, State, Here, Halt, Deeper, File, caused, layout_in, start, source_at, begun, halting}
 use Rattle.inc_pp.proofs.NamedIncludes.{BeginsWith, no_header_by_name}
 use Rattle.inc_report.proofs.KeptLines.{Each, each_before, each_behind, each_push}
@@ -208,14 +209,22 @@ module _ (Near : Found → Type 0) (Absent : List ℕ → Type 0) where
   led_near : (by : IncludeName) (f : File) (s : State) (o : Option Found) → IsNearFile o → IsNear s → Keeps IsTarget (led_to by f s o)
   led_near by f s o near n = keeps_then (wanted_near by f s o near) (λ i k. keeps_ok (k, after_near by o s n))
 
+  -- such a file as it is to be read
+  abbrev IsEntered : Option FileToRead × State → Type 0
+  IsEntered r = IfSome r.0 (λ e. Near e.at) × IsNear r.1
+
+  entered_near : (f : File) (h : Here) (name : List ℕ) (r : Option Found × State) → IsTarget r → IsEntered (option_map (entered f h name) r.0, r.1)
+  entered_near f h name (None, s) k = k
+  entered_near f h name (Some at, s) k = k
+
   target_near : (by : IncludeName) (target : Target) (f : File) (l : FileLine) (s : State) (h : Here) → Leads f (Include by target) l.tokens → IsNear s
-      → Keeps IsTarget (include_target by target f l s h)
+      → Keeps IsEntered (include_target by target f l s h)
   target_near by (Quoted name) f l s h leads n =
       let header : Header = record { form = form.Quoted; name = name } in
-      led_near by f s (found_from f by header) leads n
+      keeps_then (led_near by f s (found_from f by header) leads n) (λ r k. keeps_ok (entered_near f h name r k))
   target_near by (Angled name) f l s h leads n =
       let header : Header = record { form = form.Angled; name = name } in
-      led_near by f s (found_from f by header) leads n
+      keeps_then (led_near by f s (found_from f by header) leads n) (λ r k. keeps_ok (entered_near f h name r k))
   target_near by (ByName name) f l s h leads n =
       let none : Keeps (λ r. ⊥) (header_of (ByName name) f l s h) = record { value = no_header_by_name name f l s h leads.1 (n.1 name leads.0) } in
       keeps_then none (λ r never. absurd never)
@@ -224,10 +233,10 @@ module _ (Near : Found → Type 0) (Absent : List ℕ → Type 0) where
 
   -- what is included, if it may be, reads near files alone
   abbrev IsDeeperNear : Deeper → Type 0
-  IsDeeperNear deeper = IfSome deeper (λ read. (at : Found) (s : State) → Near at → IsNear s → Holds IsNear IsNear (read at s))
+  IsDeeperNear deeper = IfSome deeper (λ read. (e : FileToRead) (s : State) → Near e.at → IsNear s → Holds IsNear IsNear (read e s))
 
-  included_near : (deeper : Deeper) (o : Option Found) (s : State) (h : Here) → IsDeeperNear deeper → IsNearFile o → IsNear s → Holds IsNearHere IsNear (included deeper o s h)
-  included_near (Some read) (Some at) s h d leads n = holds_then (d at s leads n) (λ after k. holds_ok k)
+  included_near : (deeper : Deeper) (o : Option FileToRead) (s : State) (h : Here) → IsDeeperNear deeper → IfSome o (λ e. Near e.at) → IsNear s → Holds IsNearHere IsNear (included deeper o s h)
+  included_near (Some read) (Some e) s h d leads n = holds_then (d e s leads n) (λ after k. holds_ok k)
   included_near (Some read) None s h d leads n = holds_ok n
   included_near None o s h d leads n = holds_ok n
 
@@ -276,15 +285,15 @@ module _ (Near : Found → Type 0) (Absent : List ℕ → Type 0) where
   tree_near f (Err fault) s h d each n = holds_halting f fault.1 s (Err fault.0) n keeps_err
 
   module _ (t : Task) (each : (at : Found) → Near at → (g : Group) → tree_of t.settings.language t.listing t.without at.file ≡ Ok g → Each (LineLeadsNear t at) (lines_of g)) where
-    file_near : (deeper : Deeper) (at : Found) (s : State) → IsDeeperNear deeper → Near at → IsNear s → Holds IsNear IsNear (file_read t deeper at s)
-    file_near deeper at s d near n =
-        tree_near (record { task = t; index = at.file; next = at.next; deeper = deeper }) (tree_of t.settings.language t.listing t.without at.file)
-        (with_read at.file s) (start (layout_in t) at.file) d (each at near)
-        (each_push IsNearRead s.reads at.file n.0 (at.next, near), n.1)
+    file_near : (deeper : Deeper) (e : FileToRead) (s : State) → IsDeeperNear deeper → Near e.at → IsNear s → Holds IsNear IsNear (file_read t deeper e s)
+    file_near deeper e s d near n =
+        tree_near (record { task = t; index = e.at.file; next = e.at.next; deeper = deeper }) (tree_of t.settings.language t.listing t.without e.at.file)
+        (with_read e.at.file s) (start (layout_in t) e) d (each e.at near)
+        (each_push IsNearRead s.reads e.at.file n.0 (e.at.next, near), n.1)
 
-    reading_near : (left : ℕ) (at : Found) (s : State) → Near at → IsNear s → Holds IsNear IsNear (reading left t at s)
-    reading_near zero at s near n = file_near None at s tt near n
-    reading_near (suc left) at s near n = file_near (Some (reading left t)) at s (λ to u m k. reading_near left to u m k) near n
+    reading_near : (left : ℕ) (e : FileToRead) (s : State) → Near e.at → IsNear s → Holds IsNear IsNear (reading left t e s)
+    reading_near zero e s near n = file_near None e s tt near n
+    reading_near (suc left) e s near n = file_near (Some (reading left t)) e s (λ to u m k. reading_near left to u m k) near n
 
   abbrev pub ReadsNear : Outcome → Type 0
   ReadsNear o = Each IsNearRead o.reads
@@ -295,14 +304,15 @@ module _ (Near : Found → Type 0) (Absent : List ℕ → Type 0) where
 
 -- all files that a preprocessing reads are near, where the words define no absent name
 pub near_reads : (Near : Found → Type 0) (Absent : List ℕ → Type 0) (listing : Listing) (source : ℕ) (words : List (List ℕ)) (settings : Settings) (without : List DirectiveId) (outcome : Outcome)
-    → Near (source_at source)
+    → Near (record { file = source; next = None })
     → ((at : Found) → Near at → (g : Group) → tree_of settings.language listing without at.file ≡ Ok g
     → Each (LineLeadsNear Near Absent (record { listing = listing; settings = settings; without = without }) at) (lines_of g))
     → IfOk (with_words 0 words (no_macros settings.language)) (AreAbsent Near Absent)
     → preprocessing listing source words settings without ≡ Ok outcome → Each (IsNearRead Near Absent) outcome.reads
 near_reads Near Absent listing source words settings without outcome near each absent is =
-    let t : Task = record { listing = listing; settings = settings; without = without } in
+    let named : Settings = named_settings (layout_of listing) source settings in
+    let t : Task = record { listing = listing; settings = named; without = without } in
     let begins : Keeps (AreAbsent Near Absent) (with_words 0 words (no_macros settings.language)) = record { value = absent } in
     let kept : Keeps (ReadsNear Near Absent) (preprocessing listing source words settings without) =
-    keeps_then begins (λ table lacks. keeps_ok (outcome_near Near Absent (reading most_depth t (source_at source) (begun table)) (reading_near Near Absent t each most_depth (source_at source) (begun table) near (tt, lacks)))) in
+    keeps_then begins (λ table lacks. keeps_ok (outcome_near Near Absent (reading most_depth t (source_at named source) (begun table)) (reading_near Near Absent t each most_depth (source_at named source) (begun table) near (tt, lacks)))) in
     IfOk-at_ok (ReadsNear Near Absent) is kept.value

@@ -8,7 +8,7 @@ use Rattle.inc_macro.specs.declared.faults.DefineFault.{DefineFault}
 use Rattle.inc_check.specs.Texts.{line_text}
 use Rattle.inc_pp.specs.Preprocessing.{Outcome, preprocessing}
 use Rattle.inc_pp.specs.Readings.{IsOfReadsAfter}
-use Rattle.inc_pp.specs.Settings.{Settings}
+use Rattle.inc_pp.specs.Settings.{Settings, sourced_settings}
 use Rattle.inc_report.specs.declared.outcome.EndKind.{EndKind}
 use Rattle.inc_report.specs.declared.outcome.EndKind.TheVariants.{Answered, Negative, Refused}
 use Rattle.inc_report.specs.NamedFiles.{file_at}
@@ -28,13 +28,14 @@ abbrev pub section_of : Layout → Result Outcome (ℕ × DefineFault) → Secti
 section_of layout (Ok o) = record { printed = outcome_printed layout o; reads = o.reads }
 section_of layout (Err b) = record { printed = refusal (BadDefinition b.0 (define_number b.1)); reads = [] }
 
--- of its file, if there is one
-abbrev pub section_at : Listing → (words : List (List ℕ)) → Settings → (without : List DirectiveId) → Option ℕ → Section
-section_at listing words settings without None = record { printed = refusal NoSuchSource; reads = [] }
-section_at listing words settings without (Some file) = section_of (layout_of listing) (preprocessing listing file words settings without)
+-- of its file, if there is one: the source is called by this path
+abbrev pub section_at : Listing → (words : List (List ℕ)) → Settings → (without : List DirectiveId) → (source : List ℕ) → Option ℕ → Section
+section_at listing words settings without source None = record { printed = refusal NoSuchSource; reads = [] }
+section_at listing words settings without source (Some file) =
+    section_of (layout_of listing) (preprocessing listing file words (sourced_settings source settings) without)
 
 abbrev pub section : Listing → (words : List (List ℕ)) → Settings → (without : List DirectiveId) → (source : List ℕ) → Section
-section listing words settings without source = section_at listing words settings without (file_at (layout_of listing) source)
+section listing words settings without source = section_at listing words settings without source (file_at (layout_of listing) source)
 
 ---- all sources
 

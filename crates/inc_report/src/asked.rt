@@ -64,7 +64,7 @@ pub struct PpQuestion<'q> {
     /// Words that define macros before the first line, in order, as `-D` words of a compiler do.
     pub words: &'q [&'q [u8]],
     /// Language, date and time, and what an include directive does whose header is not found.
-    pub settings: &'q Settings,
+    pub settings: &'q Settings<'q>,
     /// The include directives that are taken as removed. Marks that name none change nothing.
     pub without: &'q [Mark],
 }

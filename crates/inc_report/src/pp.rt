@@ -55,7 +55,7 @@ struct Job<'j, 'r> {
     alloc: Global,
     project: &'j Project<'j>,
     words: &'j [&'j [u8]],
-    settings: &'j Settings,
+    settings: &'j Settings<'j>,
     removed: &'j DirectiveSet<'r>,
 }
 
@@ -258,10 +258,11 @@ fn outcome_of<S: Sources>(
     let Some(source) = file_at(job.alloc, job.project, path)? else {
         return Err(NoOutcome::NoSource);
     };
+    let settings = job.settings.with_source(path);
     let shared = inc_pp::Job {
         alloc: job.alloc,
         project: job.project,
-        settings: job.settings,
+        settings: &settings,
         removed: job.removed,
     };
     match preprocess_with(&shared, sources, files, source, job.words) {

@@ -147,9 +147,13 @@ fn expand_tokens<'a>(
 ) -> Result<(), Stop> {
     let place = Place {
         name: b"\"m.c\"",
+        base: b"m.c",
         shift: 10,
+        level: 0,
+        is_system: false,
         date: *b"Jan  1 1970",
         time: *b"00:00:00",
+        timestamp: *b"Thu Jan  1 00:00:00 1970",
     };
     let mut budget = full_budget(alloc)?;
     match expand(alloc, tokens, macros, 5, asked.mode, &place, &mut budget) {

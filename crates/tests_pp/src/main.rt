@@ -5,7 +5,7 @@
 //!
 //! | Kind | Settings, and what is after the files | The answer |
 //! |---|---|---|
-//! | `preprocessing` | `word WORD`, `dir DIRECTORY`, `without LINE PATH`, `date DATE`, `time TIME`, `empty` where missing headers count as empty, `gnu` for GNU C | the tokens, the files that are read with how often one is read again and again, and where it stops |
+//! | `preprocessing` | `word WORD`, `dir DIRECTORY`, `without LINE PATH`, `date DATE`, `time TIME`, `timestamp TIMESTAMP`, `empty` where missing headers count as empty, `gnu` for GNU C, `source PATH` for the name of the source, `shown DIRECTORY` or `system DIRECTORY` for how each directory is spelled, `markers` for line markers | the tokens, the files that are read with how often one is read again and again, and where it stops |
 //! | `hidden names` | two names | which sets of them have equal numbers |
 //!
 //! A preprocessing has a project: settings, one a line, then `@PATH` for each file and what it holds. Its source is `m.c`.

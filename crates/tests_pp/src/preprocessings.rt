@@ -2,7 +2,7 @@
 ghost use Rattle.std.specs.Prelude.{◌≤◌, length};
 
 use inc_lookup::{DirectiveId, FileId, HeldFiles, Project};
-use inc_pp::{Missing, Outcome, PpRefusal, Settings, preprocess};
+use inc_pp::{Missing, Outcome, PpRefusal, Settings, ShownDir, preprocess};
 use inc_token::{Kind, Language};
 use std::alloc::Global;
 use tests_parts::{
@@ -30,8 +30,29 @@ fn add_by_settings(
     out: &mut Vec<u8>,
 ) -> Result<(), Stop> {
     match settings_in(alloc, lines)? {
-        Some(settings) => add_by_words(alloc, project, held, &settings, lines, out),
+        Some(settings) => add_by_names(alloc, project, held, &settings, lines, out),
         None => add(out, b"no settings\n"),
+    }
+}
+
+/// The same by settings, which get the lines `source PATH`, `shown DIRECTORY`, `system DIRECTORY` and `markers`.
+fn add_by_names(
+    alloc: Global,
+    project: &Project<'_>,
+    held: &mut HeldFiles<'_>,
+    settings: &Settings<'_>,
+    lines: &str,
+    out: &mut Vec<u8>,
+) -> Result<(), Stop> {
+    let dirs = shown_in(alloc, lines)?;
+    let settings = settings.with_dirs(&dirs);
+    let settings = settings.with_markers(lines.split('\n').any(|line| line == "markers"));
+    match words_in(alloc, lines, "source ")?.first() {
+        Some(source) => {
+            let settings = settings.with_source(source);
+            add_by_words(alloc, project, held, &settings, lines, out)
+        }
+        None => add_by_words(alloc, project, held, &settings, lines, out),
     }
 }
 
@@ -40,7 +61,7 @@ fn add_by_words(
     alloc: Global,
     project: &Project<'_>,
     held: &mut HeldFiles<'_>,
-    settings: &Settings,
+    settings: &Settings<'_>,
     lines: &str,
     out: &mut Vec<u8>,
 ) -> Result<(), Stop> {
@@ -73,11 +94,12 @@ fn project_in<'a>(alloc: Global, paths: &'a [&'a [u8]], lines: &str) -> Result<P
     project_of(alloc, paths, &dirs)
 }
 
-/// The settings of the lines `date DATE`, `time TIME`, `empty` and `gnu`; `None` where these make none.
-fn settings_in(alloc: Global, lines: &str) -> Result<Option<Settings>, Stop> {
+/// The settings of the lines `date DATE`, `time TIME`, `timestamp TIMESTAMP`, `empty` and `gnu`; `None` where these make none.
+fn settings_in<'n>(alloc: Global, lines: &str) -> Result<Option<Settings<'n>>, Stop> {
     let _refusing = refusing(alloc)?;
     let mut date = *b"Jan  1 1970";
     let mut time = *b"00:00:00";
+    let mut timestamp = *b"Thu Jan  1 00:00:00 1970";
     let mut missing = Missing::Stop;
     let mut language = Language::C17;
     for line in lines.split('\n').skip(1) {
@@ -85,12 +107,28 @@ fn settings_in(alloc: Global, lines: &str) -> Result<Option<Settings>, Stop> {
         match word {
             "date" => fill(&mut date, rest)?,
             "time" => fill(&mut time, rest)?,
+            "timestamp" => fill(&mut timestamp, rest)?,
             "empty" => missing = Missing::Empty,
             "gnu" => language = Language::Gnu,
             _ => {}
         }
     }
-    Ok(Settings::new(language, date, time, missing))
+    Ok(Settings::new(language, date, time, timestamp, missing))
+}
+
+/// The directories of the lines `shown DIRECTORY` and `system DIRECTORY`.
+fn shown_in<'a>(alloc: Global, lines: &'a str) -> Result<Vec<ShownDir<'a>>, Stop> {
+    let mut dirs = Vec::new(alloc);
+    for line in lines.split('\n').skip(1) {
+        let (word, rest) = split_word(line);
+        if word == "shown" || word == "system" {
+            dirs.push(ShownDir {
+                name: rest.as_bytes(),
+                is_system: word == "system",
+            })?;
+        }
+    }
+    Ok(dirs)
 }
 
 /// Fills bytes with a text of as many.

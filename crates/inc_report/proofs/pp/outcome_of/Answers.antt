@@ -13,15 +13,15 @@ returns-in_default-clause-refused g c titles p q says is =
 pub returns-in-Ok-clause-outcome : goal.returns-in-Ok-clause-outcome
 returns-in-Ok-clause-outcome g c titles p is =
     let there = sym c.in_ok-source.ensures.file ∙ c.in-Some.is in
-    of_outcome g.S.Sources.gives _ _ (common_of c.args.job.now) _ _ titles c.args.path.now p c.in-Some.source c.in-Ok.outcome there is c.in-Ok.ensures.outcome
+    of_outcome g.S.Sources.gives _ _ (common_of c.args.job.now) _ _ titles c.args.path.now p c.in-Some.source c.in-Ok.outcome c.with_source-settings.result c.with_source-settings.ensures there is c.in-Ok.ensures.outcome
 
 pub returns-in-Err-clause-refused : goal.returns-in-Err-clause-refused
 returns-in-Err-clause-refused g c titles p q says is =
     let there = sym c.in_ok-source.ensures.file ∙ c.in-Some.is in
-    of_refusal g.S.Sources.gives _ _ (common_of c.args.job.now) _ _ titles c.args.path.now p q c.in-Some.source c.in-Err.fault there c.in-Err.ensures.definition says is
+    of_refusal g.S.Sources.gives _ _ (common_of c.args.job.now) _ _ titles c.args.path.now p q c.in-Some.source c.in-Err.fault c.with_source-settings.result c.with_source-settings.ensures there c.in-Err.ensures.definition says is
 
 pub returns-in-Err-clause-unread : goal.returns-in-Err-clause-unread
 returns-in-Err-clause-unread g c =
     let there = sym c.in_ok-source.ensures.file ∙ c.in-Some.is in
     if_some (read_fault_of c.in-Err.fault)
-    (λ r fails. of_next g.S.Sources.gives _ _ (common_of c.args.job.now) _ c.args.path.now c.in-Some.source r there fails) c.in-Err.ensures.unread
+    (λ r fails. of_next g.S.Sources.gives _ _ (common_of c.args.job.now) _ c.args.path.now c.in-Some.source r c.with_source-settings.result c.with_source-settings.ensures there fails) c.in-Err.ensures.unread

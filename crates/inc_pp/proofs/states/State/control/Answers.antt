@@ -8,15 +8,15 @@ use Rattle.inc_pp.proofs.ControlSteps.{include-done, found-stop, header-stop, ot
 use Rattle.inc_pp.proofs.StopSteps.{if-stop, kind-read, line-at}
 use Rattle.inc_pp.proofs.states.State.control.Goals as goal
 
-pub returns-in_ok-found-in-Include-clause-done : goal.returns-in_ok-found-in-Include-clause-done
-returns-in_ok-found-in-Include-clause-done c f l is at =
+pub returns-in_ok-entry-in-Include-clause-done : goal.returns-in_ok-entry-in-Include-clause-done
+returns-in_ok-entry-in-Include-clause-done c f l is at =
     let kind_is = kind-read c.args.lines.now c.args.i l (Include c.in-Include.by (seen_target c.in-Include.target)) at c.in-Include.ensures in
     include-done f l (state_of c.args.self.now) c.args.here.now c.args.project.now c.args.settings.now c.args.at.now c.args.nests is
     c.in-Include.by (seen_target c.in-Include.target) kind_is
     c.in_ok-header-in-Include.header c.header.new.self.budget (state_of c.header.new.self) c.in_ok-there-in-Include.there
     c.in_ok-header-in-Include.ensures.kept (c.in_ok-header-in-Include.ensures.done l at) c.in_ok-there-in-Include.ensures.found
-    (state_of c.led_to.new.self) c.in_ok-found-in-Include.found c.in_ok-found-in-Include.ensures.done.0
-    c.in_ok-found-in-Include.ensures.done.1
+    (state_of c.led_to.new.self) c.in_ok-found-in-Include.found c.in_ok-entry-in-Include.entry c.in_ok-found-in-Include.ensures.done.0
+    c.in_ok-found-in-Include.ensures.done.1 c.in_ok-entry-in-Include.ensures
 
 pub returns-in_err-header-in-Include-clause-stop : goal.returns-in_err-header-in-Include-clause-stop
 returns-in_err-header-in-Include-clause-stop c =

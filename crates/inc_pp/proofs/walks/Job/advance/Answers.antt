@@ -32,7 +32,7 @@ returns-in-Some-found-clause-less g c =
     let walk = c.requires.walk in
     on_ok_both c.enter.result
     (λ reads left. subst (λ n. walk_left c.enter.new.files (reverse c.enter.new.frames.items) n < walk_left c.args.files.now (c.args.frame ∷ reverse c.args.frames.now.items) (length c.args.state.now.reads))
-    (sym (one_longer c.enter.new.state.reads c.read.new.state.reads c.args.state.now.reads c.in-Some-found.to.file reads c.read.ensures.reads))
+    (sym (one_longer c.enter.new.state.reads c.read.new.state.reads c.args.state.now.reads c.in-Some-found.to.at.file reads c.read.ensures.reads))
     (left-enter c.args.files.now c.enter.new.files (reverse c.args.frames.now.items) (reverse c.enter.new.frames.items) c.args.frame c.read.new.frame (length c.args.state.now.reads)
     c.in-Ok.ensures.same c.in-Ok.ensures.onward
     (some_low c.args.files.now c.args.frame.at.file c.count.result c.args.frame.part c.in-Some.held.now (held_is (λ h. h.now) c.get.result c.in-Some.held c.args.files.now c.args.frame.at.file c.get.ensures c.in-Some.is) c.count.ensures c.if-frame-count.false)

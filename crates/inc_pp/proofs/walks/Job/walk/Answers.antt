@@ -1,6 +1,6 @@
 use Rattle.std.proofs.Common.{rules, ◌≡◌, ◌<◌, [], length, ap, reverse, sym, subst}
 use Rattle.inc_pp.specs.StateViews.{state_of}
-use Rattle.inc_pp.specs.Tasks.{source_at}
+use Rattle.inc_pp.specs.Tasks.{Entry}
 use Rattle.inc_pp.specs.WalkJobs.{job_in, walk_left}
 use Rattle.inc_pp.specs.WalkStates.{IsWalk, IsEntering}
 use Rattle.inc_pp.proofs.WalkLemmas.{reverse-push}
@@ -9,13 +9,15 @@ use Rattle.inc_pp.proofs.walks.Job.walk.Goals as goal
 
 pub returns-in-Err-clause-ends : goal.returns-in-Err-clause-ends
 returns-in-Err-clause-ends g c = λ origin table earlier begins shared. c.in-Err.ensures.over origin c.args.source table earlier
-    (subst (λ fs. IsEntering g.S.Sources.gives origin c.args.sources.now (job_in c.args.self.now c.args.source table earlier) c.args.files.now fs (source_at c.args.source) (state_of c.args.state.now)) (sym (ap reverse c.new-frames.ensures.items))
-    (whole-enters g.S.Sources.gives origin (job_in c.args.self.now c.args.source table earlier) c.args.sources.now c.args.files.now (state_of c.args.state.now) begins c.requires.within shared))
+    (subst (λ fs. IsEntering g.S.Sources.gives origin c.args.sources.now (job_in c.args.self.now c.args.source table earlier) c.args.files.now fs c.in_ok-at.at (state_of c.args.state.now)) (sym (ap reverse c.new-frames.ensures.items))
+    (subst (λ (e : Entry). IsEntering g.S.Sources.gives origin c.args.sources.now (job_in c.args.self.now c.args.source table earlier) c.args.files.now [] e (state_of c.args.state.now)) (sym c.in_ok-at.ensures)
+    (whole-enters g.S.Sources.gives origin (job_in c.args.self.now c.args.source table earlier) c.args.sources.now c.args.files.now (state_of c.args.state.now) begins c.requires.within shared)))
 
 pub loop-frame-init : goal.loop-frame-init
 loop-frame-init g c = λ origin table earlier begins shared. c.in-Ok.ensures.entered origin c.args.source table earlier
-    (subst (λ fs. IsEntering g.S.Sources.gives origin c.args.sources.now (job_in c.args.self.now c.args.source table earlier) c.args.files.now fs (source_at c.args.source) (state_of c.args.state.now)) (sym (ap reverse c.new-frames.ensures.items))
-    (whole-enters g.S.Sources.gives origin (job_in c.args.self.now c.args.source table earlier) c.args.sources.now c.args.files.now (state_of c.args.state.now) begins c.requires.within shared))
+    (subst (λ fs. IsEntering g.S.Sources.gives origin c.args.sources.now (job_in c.args.self.now c.args.source table earlier) c.args.files.now fs c.in_ok-at.at (state_of c.args.state.now)) (sym (ap reverse c.new-frames.ensures.items))
+    (subst (λ (e : Entry). IsEntering g.S.Sources.gives origin c.args.sources.now (job_in c.args.self.now c.args.source table earlier) c.args.files.now [] e (state_of c.args.state.now)) (sym c.in_ok-at.ensures)
+    (whole-enters g.S.Sources.gives origin (job_in c.args.self.now c.args.source table earlier) c.args.sources.now c.args.files.now (state_of c.args.state.now) begins c.requires.within shared)))
 
 pub advance-requires : goal.advance-requires
 advance-requires g c =
