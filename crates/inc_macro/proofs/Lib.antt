@@ -11,6 +11,8 @@ pub mod WordLines
 pub mod UnplacedTokens
 pub mod NamedEntries
 pub mod TableSteps
+pub mod StackSteps
+pub mod AsideTables
 pub mod NameSteps
 pub mod GoodNames
 pub mod JoinedNames

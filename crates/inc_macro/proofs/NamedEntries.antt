@@ -132,7 +132,7 @@ module _ (ds new : List Definition) (d : Definition) (some : is_some (found (ent
 ---- one less
 
 -- what a name finds is a definition with that name
-found-in : (name : List ℕ) (ds : List Definition) (d : Definition) → found (entries_of ds) name ≡ Some d → Contains ds d × (bytes_eq d.name name ≡ true)
+pub found-in : (name : List ℕ) (ds : List Definition) (d : Definition) → found (entries_of ds) name ≡ Some d → Contains ds d × (bytes_eq d.name name ≡ true)
 found-in name [] d is = cc
 found-in name (e ∷ ds) d is = by (bytes_eq name e.name) refl (found-in name ds d) is
   where

@@ -138,7 +138,7 @@ undef_keeps ts name other table is apart =
 removed_new : (d : Definition) (table : Table) (name : List ℕ) → d.name ≡ name → table.find name ≡ None
     → without name (with_new d table) (Some d) ≡ table
 removed_new d table name is none =
-    same_table _ _ _ _ _
+    same_table _ _ _ _ _ _
     (fun_ext λ n.
     cond_both (bytes_eq n name) None (cond (bytes_eq n d.name) (Some d) (table.find n)) (λ o. o ≡ table.find n)
     (λ here. sym (ap table.find ((bytes_eq-Decides n name).0 here) ∙ none))

@@ -9,42 +9,42 @@ use Rattle.indexmap.specs.IndexSet.{replace_key}
 use Rattle.inc_token.specs.declared.kinds.Language.{Language}
 use Rattle.inc_macro.specs.Macros.{Definition, Table, without, with_new, with_other}
 use Rattle.inc_macro.specs.NameSlots.{HasSlots, is_taken, slot_of}
-use Rattle.inc_macro.specs.Tables.{Entries, entries_of, found, table_of}
+use Rattle.inc_macro.specs.Tables.{Entries, Stacks, entries_of, found, table_of}
 use Rattle.inc_macro.proofs.NamedEntries.{found-exchanged, length-entries, length-exchanged}
 
-pub same_table : (l : Language) (f g : List ℕ → Option Definition) (m n : ℕ) → f ≡ g → m ≡ n
-    → ◌≡◌ {A = Table} (record { language = l; find = f; size = m }) (record { language = l; find = g; size = n })
-same_table l f g m n finds sizes =
-    let by_find : (List ℕ → Option Definition) → Table = λ h. record { language = l; find = h; size = m } in
-    let by_size : ℕ → Table = λ k. record { language = l; find = g; size = k } in
+pub same_table : (l : Language) (aside : List ℕ → List (Option Definition)) (f g : List ℕ → Option Definition) (m n : ℕ) → f ≡ g → m ≡ n
+    → ◌≡◌ {A = Table} (record { language = l; find = f; size = m; aside = aside }) (record { language = l; find = g; size = n; aside = aside })
+same_table l aside f g m n finds sizes =
+    let by_find : (List ℕ → Option Definition) → Table = λ h. record { language = l; find = h; size = m; aside = aside } in
+    let by_size : ℕ → Table = λ k. record { language = l; find = g; size = k; aside = aside } in
     ap by_find finds ∙ ap by_size sizes
 
--- the table of this language with these entries
-abbrev pub table_in : Language → Entries → Table
-table_in l entries = table_of (record { language = l; entries = entries })
+-- the table of this language with these entries, where this is put aside
+abbrev pub table_in : Language → Stacks → Entries → Table
+table_in l stacks entries = table_of (record { language = l; entries = entries; stacks = stacks })
 
-pub removed : (l : Language) (old new : List Definition) (name : List ℕ) (o : Option Definition) (was : Bool) → is_some o ≡ was
+pub removed : (l : Language) (stacks : Stacks) (old new : List Definition) (name : List ℕ) (o : Option Definition) (was : Bool) → is_some o ≡ was
     → ((q : List ℕ) → found (entries_of new) q ≡ cond (bytes_eq name q) None (found (entries_of old) q))
-    → OnFalse was (new ≡ old) → length new + cond was 1 0 ≡ length old → without name (table_in l (entries_of old)) o ≡ table_in l (entries_of new)
-removed l old new name None false is updates same len = ap (λ (ds : List Definition). table_in l (entries_of ds)) (sym same)
-removed l old new name None true is updates same len = cc
-removed l old new name (Some d) false is updates same len = cc
-removed l old new name (Some d) true is updates same len =
-    same_table _ _ _ _ _
+    → OnFalse was (new ≡ old) → length new + cond was 1 0 ≡ length old → without name (table_in l stacks (entries_of old)) o ≡ table_in l stacks (entries_of new)
+removed l stacks old new name None false is updates same len = ap (λ (ds : List Definition). table_in l stacks (entries_of ds)) (sym same)
+removed l stacks old new name None true is updates same len = cc
+removed l stacks old new name (Some d) false is updates same len = cc
+removed l stacks old new name (Some d) true is updates same len =
+    same_table _ _ _ _ _ _
     (fun_ext λ n. ap (λ t. cond t None (found (entries_of old) n)) (nat_list_eq_equiv.symm n name) ∙ sym (updates n))
     (omega (arith, len, length-entries old, length-entries new))
 
-pub added : (l : Language) (old new : Entries) (d : Definition) → ((q : List ℕ) → found new q ≡ cond (bytes_eq d.name q) (Some d) (found old q))
-    → length new ≡ length old + 1 → with_new d (table_in l old) ≡ table_in l new
-added l old new d updates len =
-    same_table _ _ _ _ _
+pub added : (l : Language) (stacks : Stacks) (old new : Entries) (d : Definition) → ((q : List ℕ) → found new q ≡ cond (bytes_eq d.name q) (Some d) (found old q))
+    → length new ≡ length old + 1 → with_new d (table_in l stacks old) ≡ table_in l stacks new
+added l stacks old new d updates len =
+    same_table _ _ _ _ _ _
     (fun_ext λ n. ap (λ t. cond t (Some d) (found old n)) (nat_list_eq_equiv.symm n d.name) ∙ sym (updates n))
     (sym len)
 
-pub exchanged : (l : Language) (old new : List Definition) (d : Definition) → is_some (found (entries_of old) d.name) ≡ true
-    → new ≡ replace_key (on (λ (x : Definition). x.name) bytes_eq) old d → with_other d (table_in l (entries_of old)) ≡ table_in l (entries_of new)
-exchanged l old new d some is =
-    same_table _ _ _ _ _
+pub exchanged : (l : Language) (stacks : Stacks) (old new : List Definition) (d : Definition) → is_some (found (entries_of old) d.name) ≡ true
+    → new ≡ replace_key (on (λ (x : Definition). x.name) bytes_eq) old d → with_other d (table_in l stacks (entries_of old)) ≡ table_in l stacks (entries_of new)
+exchanged l stacks old new d some is =
+    same_table _ _ _ _ _ _
     (fun_ext λ n. ap (λ t. cond t (Some d) (found (entries_of old) n)) (nat_list_eq_equiv.symm n d.name) ∙ sym (found-exchanged old new d some is n))
     (sym (length-exchanged old new d some is))
 

@@ -1,11 +1,13 @@
 -- A name that is not defined stays so where another is defined, and where any is removed.
-use Rattle.std.proofs.Common.{◌≡◌, ◌≢◌, ℕ, Bool, true, false, List, [], ◌∷◌, Option, Some, None, Result, Ok, Err, IfOk, is_some, bytes_eq, option_map, slice_get, if◌then◌else◌, refl, sym, ap, ◌∙◌, subst}
-use Rattle.std.specs.Prelude.{◌||◌, not}
+use Rattle.std.proofs.Common.{◌≡◌, ◌≢◌, ℕ, Bool, true, false, List, [], ◌∷◌, Option, Some, None, Result, Ok, Err, IfOk, cond, is_some, bytes_eq, option_map, slice_get, if◌then◌else◌, refl, sym, ap, ◌∙◌, subst}
+use Rattle.std.specs.Prelude.{◌||◌, ◌+◌, not}
+use Rattle.std.specs.List.{AllByRecursion}
 use Rattle.std.proofs.lemmas.Bool.{cond_both, or_parts}
+use Rattle.std.proofs.lemmas.Slice.Eq.{bytes_eq-Decides}
 use Rattle.inc_token.specs.declared.kinds.Language.{Language}
 use Rattle.inc_token.specs.declared.kinds.Language.TheVariants.{C17, Extended, Gnu}
 use Rattle.inc_token.specs.TokenLines.{Tok}
-use Rattle.inc_macro.specs.Macros.{Definition, Table, after_first, asks_headers, define, definition_after, definition_in, definition_of, is_among, is_defined, is_identifier_kind, is_reserved, name_at, predefined_names, redefined, same_definition, undef, with_definition, without}
+use Rattle.inc_macro.specs.Macros.{Definition, Table, after_first, asks_headers, define, definition_after, definition_in, definition_of, is_among, is_defined, is_identifier_kind, is_reserved, name_at, pop_macro, popped, predefined_names, push_macro, redefined, same_definition, undef, with_definition, with_words, define_word, word_tokens, without}
 use Rattle.inc_macro.specs.Results.{◌>>=◌}
 use Rattle.inc_macro.specs.declared.faults.DefineFault.{DefineFault}
 use Rattle.inc_macro.specs.declared.faults.DefineFault.TheVariants.{NoName, ReservedName}
@@ -81,3 +83,112 @@ undef_lacks ts name table lacks = by (name_at table.language ts)
     by : (r : Result (List ℕ) DefineFault) → IfOk (r >>= (λ m. Ok (is_some (table.find m), without m table (table.find m)))) (λ (x : Bool × Table). Lacks name x.1)
     by (Ok other) = without_lacks name other table (table.find other) lacks
     by (Err fault) = tt
+
+---- what is put aside
+
+-- what is put aside stays where a macro is defined
+
+same_redefined : (language : Language) (d : Definition) (table : Table) → IfOk (redefined language d table) (λ after. after.aside ≡ table.aside)
+same_redefined C17 d table = tt
+same_redefined Extended d table = tt
+same_redefined Gnu d table = refl
+
+same_defined : (d : Definition) (table : Table) (o : Option Definition) → IfOk (with_definition d table o) (λ after. after.aside ≡ table.aside)
+same_defined d table None = refl
+same_defined d table (Some old) =
+    cond_both (same_definition old d) (Ok table) (redefined table.language d table) (λ r. IfOk r (λ after. after.aside ≡ table.aside)) (λ _. refl)
+    (λ _. same_redefined table.language d table)
+
+define_same : (ts : List Tok) (table : Table) → IfOk (define ts table) (λ after. after.aside ≡ table.aside)
+define_same ts table = by (definition_in table.language ts)
+  where
+    by : (r : Result Definition DefineFault) → IfOk (r >>= (λ d. with_definition d table (table.find d.name))) (λ after. after.aside ≡ table.aside)
+    by (Ok d) = same_defined d table (table.find d.name)
+    by (Err fault) = tt
+
+word_same : (word : List ℕ) (table : Table) → IfOk (define_word word table) (λ after. after.aside ≡ table.aside)
+word_same word table = by (word_tokens table.language word)
+  where
+    by : (r : Result (List Tok) DefineFault) → IfOk (r >>= (λ ts. define ts table)) (λ after. after.aside ≡ table.aside)
+    by (Ok ts) = define_same ts table
+    by (Err fault) = tt
+
+-- words of the command line put nothing aside
+pub words_same : (i : ℕ) (words : List (List ℕ)) (table : Table) → IfOk (with_words i words table) (λ after. after.aside ≡ table.aside)
+words_same i [] table = refl
+words_same i (word ∷ words) table = by (define_word word table) (word_same word table) (λ t. words_same (i + 1) words t)
+  where
+    after : (t : Table) (r : Result Table (ℕ × DefineFault)) → t.aside ≡ table.aside → IfOk r (λ u. u.aside ≡ t.aside) → IfOk r (λ u. u.aside ≡ table.aside)
+    after t (Ok u) same is = is ∙ same
+    after t (Err fault) same is = tt
+
+    by : (r : Result Table DefineFault) → IfOk r (λ t. t.aside ≡ table.aside) → ((t : Table) → IfOk (with_words (i + 1) words t) (λ u. u.aside ≡ t.aside))
+        → IfOk (elim r as (λ _. Result Table (ℕ × DefineFault)) [ Ok t ↦ with_words (i + 1) words t | Err fault ↦ Err (i, fault) ]) (λ u. u.aside ≡ table.aside)
+    by (Ok t) same more = after t (with_words (i + 1) words t) same (more t)
+    by (Err fault) same more = tt
+
+-- each time that something of a name was put aside, it had no definition
+abbrev pub AreNone : List (Option Definition) → Type 0
+AreNone os = AllByRecursion (λ (o : Option Definition). o ≡ None) os
+
+-- the name has no definition, and gets none back
+abbrev pub IsAbsent : List ℕ → Table → Type 0
+IsAbsent name table = Lacks name table × AreNone (table.aside name)
+
+-- it is absent where nothing is put aside
+pub absent_undefined : (name : List ℕ) (table : Table) → is_defined name table ≡ false → table.aside name ≡ [] → IsAbsent name table
+absent_undefined name table undefined none = (lacks_undefined name table undefined, subst AreNone (sym none) tt)
+
+if_both : {A E : Type 0} (P Q : A → Type 0) (r : Result A E) → IfOk r P → IfOk r Q → IfOk r (λ x. P x × Q x)
+if_both P Q (Ok x) p q = (p, q)
+if_both P Q (Err e) p q = tt
+
+if_same : {A E : Type 0} (f : A → Table) (table : Table) (name : List ℕ) (r : Result A E) → IfOk r (λ x. (f x).aside ≡ table.aside) → AreNone (table.aside name)
+    → IfOk r (λ x. AreNone ((f x).aside name))
+if_same f table name (Ok x) same none = subst (λ (a : List ℕ → List (Option Definition)). AreNone (a name)) (sym same) none
+if_same f table name (Err e) same none = tt
+
+pub define_absent : (ts : List Tok) (name : List ℕ) (table : Table) → first_spelling ts ≢ Some name → IsAbsent name table → IfOk (define ts table) (IsAbsent name)
+define_absent ts name table apart absent =
+    if_both (Lacks name) (λ after. AreNone (after.aside name)) (define ts table) (define_lacks ts name table apart absent.0)
+    (if_same (λ t. t) table name (define ts table) (define_same ts table) absent.1)
+
+without_same : (name : List ℕ) (table : Table) (o : Option Definition) → (without name table o).aside ≡ table.aside
+without_same name table None = refl
+without_same name table (Some d) = refl
+
+undef_same : (ts : List Tok) (table : Table) → IfOk (undef ts table) (λ (r : Bool × Table). r.1.aside ≡ table.aside)
+undef_same ts table = by (name_at table.language ts)
+  where
+    by : (r : Result (List ℕ) DefineFault) → IfOk (r >>= (λ m. Ok (is_some (table.find m), without m table (table.find m)))) (λ (x : Bool × Table). x.1.aside ≡ table.aside)
+    by (Ok other) = without_same other table (table.find other)
+    by (Err fault) = tt
+
+pub undef_absent : (ts : List Tok) (name : List ℕ) (table : Table) → IsAbsent name table → IfOk (undef ts table) (λ (r : Bool × Table). IsAbsent name r.1)
+undef_absent ts name table absent =
+    if_both (λ (r : Bool × Table). Lacks name r.1) (λ (r : Bool × Table). AreNone (r.1.aside name)) (undef ts table) (undef_lacks ts name table absent.0)
+    (if_same (λ (r : Bool × Table). r.1) table name (undef ts table) (undef_same ts table) absent.1)
+
+-- after something of any name is put aside
+pub push_absent : (other name : List ℕ) (table : Table) → IsAbsent name table → IsAbsent name (push_macro other table)
+push_absent other name table absent = (absent.0, by (bytes_eq name other) refl)
+  where
+    by : (b : Bool) → bytes_eq name other ≡ b → AreNone (cond b (table.find other ∷ table.aside other) (table.aside name))
+    by true same = subst (λ n. AreNone (table.find n ∷ table.aside n)) ((bytes_eq-Decides name other).0 same) (absent.0.1, absent.1)
+    by false apart = absent.1
+
+popped_absent : (other name : List ℕ) (table : Table) (os : List (Option Definition)) → IsAbsent name table → (name ≡ other → AreNone os) → IsAbsent name (popped other os table)
+popped_absent other name table [] absent all = absent
+popped_absent other name table (o ∷ os) absent all = ((absent.0.0, there (bytes_eq name other) refl), left (bytes_eq name other) refl)
+  where
+    there : (b : Bool) → bytes_eq name other ≡ b → cond b o (table.find name) ≡ None
+    there true same = (all ((bytes_eq-Decides name other).0 same)).0
+    there false apart = absent.0.1
+
+    left : (b : Bool) → bytes_eq name other ≡ b → AreNone (cond b os (table.aside name))
+    left true same = (all ((bytes_eq-Decides name other).0 same)).1
+    left false apart = absent.1
+
+-- after something of any name is taken back
+pub pop_absent : (other name : List ℕ) (table : Table) → IsAbsent name table → IsAbsent name (pop_macro other table)
+pop_absent other name table absent = popped_absent other name table (table.aside other) absent (λ same. subst (λ n. AreNone (table.aside n)) same absent.1)

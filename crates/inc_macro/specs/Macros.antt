@@ -44,9 +44,11 @@ pub record Table : Type 0 where
   pub language : Language
   pub find : List ℕ → Option Definition
   pub size : ℕ
+  -- what `#pragma push_macro` put aside of each name, the last first: a definition, or that it had none
+  pub aside : List ℕ → List (Option Definition)
 
 abbrev pub no_macros : Language → Table
-no_macros language = record { language = language; find = λ n. None; size = 0 }
+no_macros language = record { language = language; find = λ n. None; size = 0; aside = λ n. [] }
 
 -- the definition of a name
 abbrev pub definition_of : List ℕ → Table → Option Definition
@@ -397,6 +399,30 @@ abbrev pub undef : List Tok → Table → Result (Bool × Table) DefineFault
 undef tokens table = do
   name ← name_at table.language tokens
   Ok (is_some (definition_of name table), without name table (definition_of name table))
+
+-- how many names have a definition, where a name that had `old` has `new`
+abbrev pub resized : (old new : Option Definition) → ℕ → ℕ
+resized None (Some d) size = size + 1
+resized (Some d) None size = size - 1
+resized old new size = size
+
+-- the table in which a name has this definition, or none
+abbrev pub with_found : List ℕ → Option Definition → Table → Table
+with_found name o table =
+    record table { find = λ n. if bytes_eq n name then o else table.find n; size = resized (definition_of name table) o table.size }
+
+-- the table after `#pragma push_macro` of a name: its definition, or that it has none, is put aside
+abbrev pub push_macro : List ℕ → Table → Table
+push_macro name table = record table { aside = λ n. if bytes_eq n name then definition_of name table ∷ table.aside name else table.aside n }
+
+-- the table in which a name has the first of these again, and the others are put aside
+abbrev pub popped : List ℕ → List (Option Definition) → Table → Table
+popped name [] table = table
+popped name (o ∷ os) table = record (with_found name o table) { aside = λ n. if bytes_eq n name then os else table.aside n }
+
+-- the table after `#pragma pop_macro` of a name: it has again what was put aside last; where nothing was, nothing changes
+abbrev pub pop_macro : List ℕ → Table → Table
+pop_macro name table = popped name (table.aside name) table
 
 -- a word of the command line as the text after `define`: its first = becomes a space; without one, 1 is the body
 abbrev pub word_text : List ℕ → List ℕ

@@ -1,7 +1,8 @@
 -- How the macros that are defined are kept.
-use Rattle.std.specs.Prelude.{ℕ, List, Option, bytes_eq, length, map}
-use Rattle.std.specs.List.{IsDistinct}
+use Rattle.std.specs.Prelude.{◌≡◌, ℕ, List, [], Option, IfSome, bytes_eq, length, map, reverse}
+use Rattle.std.specs.List.{AllByRecursion, IsDistinct}
 use Rattle.std.specs.Map.{lookup}
+use Rattle.std.specs.Option.{option_map_or}
 use Rattle.std.specs.Ordering.{on}
 use Rattle.inc_token.specs.declared.kinds.Language.{Language}
 use Rattle.inc_macro.specs.Macros.{Definition, Table}
@@ -22,11 +23,29 @@ AreApart ds = IsDistinct (on (λ (d : Definition). d.name) bytes_eq) ds
 abbrev pub found : Entries → List ℕ → Option Definition
 found entries name = lookup (bytes_eq name) entries
 
--- a language and entries
+-- names with what was put aside of them, the last of it last. Their order says nothing
+abbrev pub Stacks : Type 0
+Stacks = List (List ℕ × List (Option Definition))
+
+-- what was put aside of a name, the last of it last
+abbrev pub stack_of : Stacks → List ℕ → List (Option Definition)
+stack_of stacks name = option_map_or (λ os. os) (lookup (bytes_eq name) stacks) []
+
+-- a definition, if there is one, is of this name
+abbrev pub IsNamed : List ℕ → Option Definition → Type 0
+IsNamed name o = IfSome o (λ (d : Definition). d.name ≡ name)
+
+-- the definitions put aside of a name are of this name
+abbrev pub AreNamed : Stacks → Type 0
+AreNamed stacks = (name : List ℕ) → AllByRecursion (IsNamed name) (stack_of stacks name)
+
+-- a language, entries, and what was put aside
 pub record Kept : Type 0 where
   pub language : Language
   pub entries : Entries
+  pub stacks : Stacks
 
 -- the finite map that the entries are, of the language
 abbrev pub table_of : Kept → Table
-table_of kept = record { language = kept.language; find = found kept.entries; size = length kept.entries }
+table_of kept =
+    record { language = kept.language; find = found kept.entries; size = length kept.entries; aside = λ n. reverse (stack_of kept.stacks n) }

@@ -1,7 +1,7 @@
 //! What holds of all definitions of macros. The functions do nothing: what they ensure is what holds.
-ghost use Rattle.std.specs.Prelude.{◌≡◌, ◌≢◌, ℕ, List, None, Ok, IfOk, IfErr, true};
+ghost use Rattle.std.specs.Prelude.{◌≡◌, ◌≢◌, ℕ, List, [], None, Ok, IfOk, IfErr, true};
 ghost use Rattle.inc_token.specs.TokenLines.{Tok};
-ghost use Rattle.inc_macro.specs.Macros.{Table, define, define_word, undef, name_at};
+ghost use Rattle.inc_macro.specs.Macros.{Table, define, define_word, pop_macro, push_macro, undef, name_at};
 ghost use Rattle.inc_macro.specs.declared.faults.DefineFault.TheVariants.{NoMemory};
 
 /// A definition that is accepted changes nothing when it comes again.
@@ -35,4 +35,14 @@ pub fn other_names_are_left_alone()
     ensures undef { (ts : List Tok) (name other : List ℕ) (table : Table) → name_at table.language ts ≡ Ok name →
         other ≢ name
         → IfOk (undef ts table) (λ r. r.1.find other ≡ table.find other) }
+{}
+
+/// What a name had comes back, whatever was defined since it was put aside, and nothing else does.
+pub fn a_name_has_again_what_was_put_aside()
+    ensures back { (name : List ℕ) (table after : Table) → after.aside ≡ (push_macro name table).aside
+        → ((pop_macro name after).find name ≡ table.find name) × ((pop_macro name after).aside name ≡ table.aside name) }
+    ensures nothing { (name : List ℕ) (table : Table) → table.aside name ≡ [] → pop_macro name table ≡ table }
+    ensures others { (name other : List ℕ) (table : Table) → other ≢ name
+        → ((push_macro name table).aside other ≡ table.aside other)
+        × ((pop_macro name table).find other ≡ table.find other) × ((pop_macro name table).aside other ≡ table.aside other) }
 {}

@@ -13,6 +13,7 @@ mod parameters;
 mod reserved_names;
 mod roles;
 mod slots;
+mod stacks;
 mod tables;
 mod variables;
 

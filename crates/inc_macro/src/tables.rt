@@ -3,8 +3,8 @@ ghost use Rattle.std.specs.Prelude.{◌≡◌, ◌≢◌, true, false, None, Ok,
 ghost use Rattle.inc_text.specs.PhaseText.{phase_text};
 ghost use Rattle.inc_token.specs.TokenLines.{token_lines};
 ghost use Rattle.inc_token.specs.Views.{seen};
-ghost use Rattle.inc_macro.specs.Macros.{asks_headers, define, define_word, redefined, undef, is_among, is_defined, no_macros, predefined_names, with_words};
-ghost use Rattle.inc_macro.specs.Tables.{table_of};
+ghost use Rattle.inc_macro.specs.Macros.{asks_headers, define, define_word, pop_macro, push_macro, redefined, undef, is_among, is_defined, no_macros, predefined_names, with_found, with_new, with_other, with_words};
+ghost use Rattle.inc_macro.specs.Tables.{IsNamed, table_of};
 ghost use Rattle.inc_macro.specs.WordLines.{StandFor, define_line, word_lines};
 
 use crate::define_directives::{definition_in, name_at};
@@ -14,10 +14,11 @@ use crate::faults::{DefineFault, WordFault};
 use crate::named::Named;
 use crate::reserved_names::{asks_headers, is_predefined};
 use crate::slots::{is_taken, place_in, slot_of, take_slot};
+use crate::stacks::Stacks;
 use inc_text::{KeyRef, SeededState, Text, TextFault};
 use inc_token::{Language, LexFault, Lines, Token, lex};
 use indexmap::IndexSet;
-use std::alloc::Global;
+use std::alloc::{AllocError, Global};
 use std::marker::Model;
 
 /// The macros that are defined, the predefined ones aside.
@@ -35,6 +36,8 @@ pub struct Macros {
     /// Most names of a text are those of no macro, and most of these have a slot that is not taken, so that they cost no hash;
     /// a look at the place saves the hash of most names that are found.
     slots: Vec<u16>,
+    /// What `#pragma push_macro` put aside.
+    stacks: Stacks,
 }
 
 impl Model for Macros {
@@ -43,7 +46,7 @@ impl Model for Macros {
 
     ghost Value = { Kept };
 
-    ghost view = { λ m. record { language = m.language; entries = entries_of m.table.keys } };
+    ghost view = { λ m. record { language = m.language; entries = entries_of m.table.keys; stacks = m.stacks } };
 
     ghost invariant = { λ m. HasSlots m.slots.items (entries_of m.table.keys) × AreApart m.table.keys };
 }
@@ -62,6 +65,7 @@ impl Macros {
             keys,
             table: IndexSet::with_hasher(alloc, keys),
             slots: Vec::new(alloc),
+            stacks: Stacks::new(alloc, keys),
         }
     }
 
@@ -92,12 +96,25 @@ impl Macros {
             }
             return self.redefine(definition);
         }
-        take_slot(&mut self.slots, slot_of(spelling), self.table.len())?;
-        self.table.insert(Named::new(definition))?;
+        let named = Named::new(self.alloc, definition)?;
+        self.add(named)?;
         Ok(())
     }
 
-    /// Takes a definition in place of the one that its name has, where the language allows that. The name keeps its slot.
+    /// Adds the definition of a name that has none.
+    fn add(&mut self, definition: Named) -> Result<(), AllocError>
+        requires { (table_of self.old).find definition.name ≡ None }
+        ensures done { OnOk result (with_new definition (table_of self.old) ≡ table_of self.new) }
+        ensures same { OnErr result (self.new ≡ self.old) }
+        ensures language { self.new.language ≡ self.old.language }
+    {
+        let slot = slot_of(definition.definition().name());
+        take_slot(&mut self.slots, slot, self.table.len())?;
+        self.table.insert(definition)?;
+        Ok(())
+    }
+
+    /// Takes a definition in place of the one that its name has, where the language allows that.
     fn redefine(&mut self, definition: Definition) -> Result<(), DefineFault>
         requires { is_some ((table_of self.old).find definition.name) ≡ true }
         ensures done { let before = table_of self.old in
@@ -110,10 +127,22 @@ impl Macros {
         match self.language {
             Language::C17 | Language::Extended => Err(DefineFault::Redefinition),
             Language::Gnu => {
-                self.table.replace(Named::new(definition))?;
+                let named = Named::new(self.alloc, definition)?;
+                self.exchange(named)?;
                 Ok(())
             }
         }
+    }
+
+    /// Takes a definition in place of the one that its name has. The name keeps its slot.
+    fn exchange(&mut self, definition: Named) -> Result<(), AllocError>
+        requires { is_some ((table_of self.old).find definition.name) ≡ true }
+        ensures done { OnOk result (with_other definition (table_of self.old) ≡ table_of self.new) }
+        ensures same { OnErr result (self.new ≡ self.old) }
+        ensures language { self.new.language ≡ self.old.language }
+    {
+        self.table.replace(definition)?;
+        Ok(())
     }
 
     /// Defines a macro by a word of the command line: its first `=` ends the name, and without one the body is `1`.
@@ -273,6 +302,71 @@ impl Macros {
         let name = name_at(self.language, tokens)?;
         let removed = self.table.swap_remove(KeyRef { bytes: name });
         Ok(removed)
+    }
+
+    /// Puts what a name has aside, its definition or that it has none: `#pragma push_macro` of GNU C. [`Macros::pop`] takes it back.
+    pub fn push(&mut self, name: &[u8]) -> Result<(), AllocError>
+        ensures { OnOk result (push_macro name.now (table_of self.old) ≡ table_of self.new) }
+    {
+        let definition = self.shared(name)?;
+        self.stacks.push(self.alloc, name, definition)?;
+        Ok(())
+    }
+
+    /// The definition of a name, to be kept in another place too.
+    fn shared(&self, name: &[u8]) -> Result<Option<Named>, AllocError>
+        ensures definition { IfOk result (λ definition. definition ≡ (table_of self.now).find name.now) }
+        ensures named { IfOk result (IsNamed name.now) }
+    {
+        match self.table.get(KeyRef { bytes: name }) {
+            Some(named) => {
+                let definition = named.share()?;
+                Ok(Some(definition))
+            }
+            None => Ok(None),
+        }
+    }
+
+    /// Has a name have again what was put aside of it last: `#pragma pop_macro` of GNU C. Where nothing was, it changes nothing.
+    pub fn pop(&mut self, name: &[u8]) -> Result<(), AllocError>
+        ensures { OnOk result (pop_macro name.now (table_of self.old) ≡ table_of self.new) }
+    {
+        match self.stacks.pop(self.alloc, name)? {
+            Some(definition) => {
+                self.restore(name, definition)?;
+                Ok(())
+            }
+            None => Ok(()),
+        }
+    }
+
+    /// Has a name have this definition, or none.
+    fn restore(&mut self, name: &[u8], definition: Option<Named>) -> Result<(), AllocError>
+        requires { IsNamed name.now definition }
+        ensures { OnOk result (with_found name.now definition (table_of self.old) ≡ table_of self.new) }
+    {
+        match definition {
+            Some(named) => {
+                self.restore_definition(named)?;
+                Ok(())
+            }
+            None => {
+                self.table.swap_remove(KeyRef { bytes: name });
+                Ok(())
+            }
+        }
+    }
+
+    /// Has the name of a definition have it.
+    fn restore_definition(&mut self, definition: Named) -> Result<(), AllocError>
+        ensures { OnOk result (with_found definition.name (Some definition) (table_of self.old) ≡ table_of self.new) }
+    {
+        if self.get(definition.definition().name()).is_some() {
+            self.exchange(definition)?;
+            return Ok(());
+        }
+        self.add(definition)?;
+        Ok(())
     }
 
     /// The definition of a name, which a predefined macro does not have.

@@ -13,8 +13,9 @@ use Rattle.inc_token.specs.TokenLines.{Tok}
 use Rattle.inc_macro.specs.Results.{◌>>=◌}
 use Rattle.inc_directive.specs.Parts.{lines_from}
 use Rattle.inc_expand.specs.Expansion.{Item}
+use Rattle.inc_pp.specs.declared.causes.Cause.{Cause}
 use Rattle.inc_pp.specs.declared.frames.Frame.{Frame}
-use Rattle.inc_pp.specs.Directives.{line_operands, names_once, changed, control_of}
+use Rattle.inc_pp.specs.Directives.{after_pragma, line_operands, names_once, changed, control_of, is_stacking, restacked, with_table}
 use Rattle.inc_pp.specs.Files.{FileFault, tree_of}
 use Rattle.inc_pp.specs.Includes.{Header, after_found, found_from, header_of, include_target, included, is_import, led_to}
 use Rattle.inc_pp.specs.Preprocessing.{group_read, section_read, tree_read, file_read, reading, most_depth, outcome_of, with_read}
@@ -67,15 +68,25 @@ module _ (before : List ℕ) where
   condition_on (Other Elifndef) f l s h n = keeps_after _ (λ x. keeps_ok n)
   condition_on kind f l s h n = keeps_after _ (λ x. keeps_ok n)
 
-  pragma_on : (b : Bool) (s t : State) → IsOn s → IsOn t → IsOn (cond b s t)
-  pragma_on true s t n m = n
-  pragma_on false s t n m = m
+  either_on : (b : Bool) (s t : State) → IsOn s → IsOn t → IsOn (cond b s t)
+  either_on true s t n m = n
+  either_on false s t n m = m
+
+  pragma_kept : (a b : Bool) (s t : State) (r : Result State Cause) → IsOn s → Keeps IsOn r → IsOn t → Keeps IsOn (cond a (Ok s) (cond b r (Ok t)))
+  pragma_kept true b s t r n k m = keeps_ok n
+  pragma_kept false true s t r n k m = k
+  pragma_kept false false s t r n k m = keeps_ok m
+
+  pragma_on : (f : File) (l : FileLine) (s : State) (h : Here) → IsOn s → Keeps IsOn (after_pragma f l s h)
+  pragma_on f l s h n =
+      pragma_kept (names_once (operands l)) (is_stacking s.table.language (operands l)) _ _ (restacked (operands l) s.table >>= λ t. Ok (with_table t s)) n
+      (keeps_after (restacked (operands l) s.table) (λ t. keeps_ok n)) n
 
   changed_on : (directive : DirectiveKind) (f : File) (l : FileLine) (s : State) (h : Here) → IsOn s → Keeps IsOnHere (changed directive f l s h)
   changed_on Define f l s h n = keeps_after _ (λ x. keeps_ok n)
   changed_on Undef f l s h n = keeps_after _ (λ x. keeps_ok n)
   changed_on Line f l s h n = keeps_then (expanded_on f h s (line_operands l.tokens) n) (λ r k. keeps_after _ (λ here. keeps_ok k))
-  changed_on Pragma f l s h n = keeps_ok (pragma_on (names_once (operands l)) _ _ n n)
+  changed_on Pragma f l s h n = keeps_then (pragma_on f l s h n) (λ t k. keeps_ok k)
   changed_on Error f l s h n = keeps_err
   changed_on Foreign f l s h n = keeps_err
   changed_on Unknown f l s h n = keeps_err
@@ -85,7 +96,7 @@ module _ (before : List ℕ) where
 
   found_on : (m : IncludeName) (o : Option Found) (s : State) → IsOn s → IsOn (after_found m o s)
   found_on m None s n = n
-  found_on m (Some at) s n = pragma_on (is_import m) _ _ n n
+  found_on m (Some at) s n = either_on (is_import m) _ _ n n
 
   led_on : (m : IncludeName) (f : File) (s : State) (o : Option Found) → IsOn s → Keeps (IsOnAfter (Option Found)) (led_to m f s o)
   led_on m f s o n = keeps_after _ (λ i. keeps_ok (found_on m o s n))

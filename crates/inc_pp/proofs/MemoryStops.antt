@@ -1,6 +1,6 @@
 -- No preprocessing stops because memory ran out: the definitions know no such thing.
-use Rattle.std.proofs.Common.{ℕ, zero, suc, ◌+◌, Bool, true, false, List, [], ◌∷◌, Option, Some, None, Result, Ok, Err, length, nat_le}
-use Rattle.std.specs.Prelude.{◌≢◌, IfOk, IfErr, IfSome, ok_or, if◌then◌else◌, bytes_eq, codes}
+use Rattle.std.proofs.Common.{ℕ, zero, suc, ◌+◌, Bool, true, false, List, [], ◌∷◌, Option, Some, None, Result, Ok, Err, drop, length, nat_le}
+use Rattle.std.specs.Prelude.{◌≢◌, IfOk, IfErr, IfSome, ok_or, option_map, if◌then◌else◌, bytes_eq, codes}
 use Rattle.inc_text.specs.PhaseText.{Cell, is_too_long, phase_text}
 use Rattle.inc_token.specs.declared.kinds.IncludeName.{IncludeName}
 use Rattle.inc_token.specs.declared.kinds.Language.{Language}
@@ -13,7 +13,7 @@ use Rattle.inc_directive.specs.declared.sections.BalanceFault.TheVariants as bal
 use Rattle.inc_directive.specs.Groups.{FileLine, Group, Branches, Empty, Run, Control, Section, Branch, Otherwise, Close, file_lines, file_tree}
 use Rattle.inc_directive.specs.LineKinds.{LineKind, Text, Include, Other, Target, Quoted, Angled, Nothing, line_of_tokens}
 use Rattle.inc_directive.specs.declared.kinds.DirectiveKind.{DirectiveKind}
-use Rattle.inc_directive.specs.declared.kinds.DirectiveKind.TheVariants.{Define, Undef, Line, Error, Foreign, Unknown, Ifdef, Ifndef, Elifdef, Elifndef}
+use Rattle.inc_directive.specs.declared.kinds.DirectiveKind.TheVariants.{Define, Undef, Line, Error, Pragma, Foreign, Unknown, Ifdef, Ifndef, Elifdef, Elifndef}
 use Rattle.inc_directive.specs.Removal.{with_removed}
 use Rattle.inc_directive.specs.Runs.{run_tokens}
 use Rattle.inc_directive.proofs.MemoryFaults.{trees_have}
@@ -23,7 +23,7 @@ use Rattle.inc_lookup.specs.DirectiveLists.{is_listed}
 use Rattle.inc_lookup.specs.Projects.{Listing, bytes_at, layout_of}
 use Rattle.inc_macro.specs.declared.faults.DefineFault.{DefineFault}
 use Rattle.inc_macro.specs.declared.faults.DefineFault.TheVariants as define
-use Rattle.inc_macro.specs.Macros.{Table, define, define_word, is_identifier_kind, no_macros, undef, with_words}
+use Rattle.inc_macro.specs.Macros.{Table, define, define_word, first_tokens, is_identifier_kind, no_macros, undef, with_words}
 use Rattle.inc_macro.specs.Results.{◌>>=◌}
 use Rattle.inc_macro.proofs.MemoryFaults.{define_has, define_word_has, undef_has}
 use Rattle.inc_expand.specs.declared.places.Mode.TheVariants.{Plain}
@@ -36,11 +36,11 @@ use Rattle.inc_pp.specs.declared.causes.Cause.{Cause}
 use Rattle.inc_pp.specs.declared.causes.Cause.TheVariants as cause
 use Rattle.inc_pp.specs.declared.settings.Missing.{Missing}
 use Rattle.inc_pp.specs.declared.settings.Missing.TheVariants as missing
-use Rattle.inc_pp.specs.Directives.{changed, control_of, counted, line_operands, renumbered}
+use Rattle.inc_pp.specs.Directives.{after_pragma, changed, control_of, counted, line_operands, renumbered, with_table}
 use Rattle.inc_pp.specs.Files.{FileFault, lines_or_fault, of_balance, text_tree, tree_of, tree_of_lines}
 use Rattle.inc_pp.specs.Includes.{found_from, header_in, header_of, include_target, included, is_done, led_to, most_reads, not_found, wanted}
 use Rattle.inc_pp.specs.MemoryCauses.{IsNotMemory}
-use Rattle.inc_pp.specs.Pragmas.{Laid, after_literal, after_name, after_open, before, is_operator, laid, plain, pragma_line, pragma_text, pragma_tokens, tokens_or_bad, where_fits}
+use Rattle.inc_pp.specs.Pragmas.{Laid, after_literal, after_name, after_open, before, is_operator, laid, plain, pragma_line, pragma_text, pragma_tokens, tokens_or_bad, where_fits, is_stacking, names_once, restacked, stacked, stacked_name}
 use Rattle.inc_pp.specs.Preprocessing.{group_read, section_read, tree_read, file_read, reading, most_depth, outcome_of, preprocessing, with_read, named_settings, source_read}
 use Rattle.inc_pp.specs.Runs.{expanded, marks_in, run_put, run_read}
 use Rattle.inc_pp.specs.Sections.{condition_of, first_name, if_defined, if_not_defined, if_true, is_taken, operands}
@@ -113,9 +113,13 @@ expanded_has f h s ts =
     (expansion_has (record { table = s.table; mode = Plain; place = place_of f h }) s.meter ts)) (λ r. tt)
 
 -- the tokens of a pragma
-bad_has : (r : Result (List TokenLine) LexFault) → Has (tokens_or_bad r)
-bad_has (Ok ls) = tt
-bad_has (Err fault) = tt
+if_operated : (b : Bool) (ts : List Tok) → Has (if b then Err cause.BadPragma else Ok ts)
+if_operated true ts = tt
+if_operated false ts = tt
+
+bad_has : (language : Language) (r : Result (List TokenLine) LexFault) → Has (tokens_or_bad language r)
+bad_has language (Ok ls) = if_operated (is_stacking language (drop 2 (first_tokens ls))) (first_tokens ls)
+bad_has language (Err fault) = tt
 
 if_long : (b : Bool) (r : Result (List Tok) Cause) → Has r → Has (if b then Err cause.BadPragma else r)
 if_long true r h = tt
@@ -123,8 +127,8 @@ if_long false r h = h
 
 pragma_has : (language : Language) (literal : List ℕ) → Has (pragma_tokens language literal)
 pragma_has language literal =
-    if_long (is_too_long (pragma_text literal)) (tokens_or_bad (token_lines language (phase_text (pragma_text literal))))
-    (bad_has (token_lines language (phase_text (pragma_text literal))))
+    if_long (is_too_long (pragma_text literal)) (tokens_or_bad language (token_lines language (phase_text (pragma_text literal))))
+    (bad_has language (token_lines language (phase_text (pragma_text literal))))
 
 before_has : (a : Laid) (r : Result Laid Cause) → Has r → Has (before a r)
 before_has a r h = then_has r _ h (λ b. tt)
@@ -202,6 +206,20 @@ taken_has f l s h = halting_has f (line_of_tokens l.tokens) s (condition_of l.ki
 
 ---- directives
 
+restacked_has : (ts : List Tok) (table : Table) → Has (restacked ts table)
+restacked_has [] table = tt
+restacked_has (t ∷ ts) table = or_has (option_map (λ name. stacked t name table) (stacked_name ts)) cause.BadPragma tt
+
+if_stacked : (a b : Bool) (s t : State) (r : Result State Cause) → Has r → Has (if a then Ok s else if b then r else Ok t)
+if_stacked true b s t r h = tt
+if_stacked false true s t r h = h
+if_stacked false false s t r h = tt
+
+pragma_line_has : (f : File) (l : FileLine) (s : State) (h : Here) → Has (after_pragma f l s h)
+pragma_line_has f l s h =
+    if_stacked (names_once (operands l)) (is_stacking s.table.language (operands l)) _ _ (restacked (operands l) s.table >>= λ t. Ok (with_table t s))
+    (then_has (restacked (operands l) s.table) _ (restacked_has (operands l) s.table) (λ t. tt))
+
 changed_has : (directive : DirectiveKind) (f : File) (l : FileLine) (s : State) (h : Here) → Has (changed directive f l s h)
 changed_has Define f l s h =
     then_has (caused cause.Define (define (operands l) s.table)) _
@@ -213,6 +231,7 @@ changed_has Line f l s h =
     then_has (expanded f h s (line_operands l.tokens)) _ (expanded_has f h s (line_operands l.tokens)) (λ r.
     let after = renumbered s.table.language h l.last_line (counted l.tokens r.0) in
     then_has (ok_or after cause.BadLine) _ (or_has after cause.BadLine tt) (λ here. tt))
+changed_has Pragma f l s h = then_has (after_pragma f l s h) _ (pragma_line_has f l s h) (λ t. tt)
 changed_has Error f l s h = tt
 changed_has Foreign f l s h = tt
 changed_has Unknown f l s h = tt

@@ -25,10 +25,10 @@ use Rattle.inc_pp.specs.Tasks.{OutToken, line_tokens}
 
 -- that of the line for a literal
 pub text-tokens : (language : Language) (literal bytes : List ℕ) (text : List Cell) → bytes ≡ pragma_text literal → text ≡ phase_text bytes → is_too_long bytes ≡ false
-    → pragma_tokens language literal ≡ tokens_or_bad (token_lines language text)
+    → pragma_tokens language literal ≡ tokens_or_bad language (token_lines language text)
 text-tokens language literal bytes text are is short =
-    ap (λ b. if b then Err BadPragma else tokens_or_bad (token_lines language (phase_text (pragma_text literal)))) (ap is_too_long (sym are) ∙ short)
-    ∙ ap (λ (cells : List Cell). tokens_or_bad (token_lines language cells)) (ap phase_text (sym are) ∙ sym is)
+    ap (λ b. if b then Err BadPragma else tokens_or_bad language (token_lines language (phase_text (pragma_text literal)))) (ap is_too_long (sym are) ∙ short)
+    ∙ ap (λ (cells : List Cell). tokens_or_bad language (token_lines language cells)) (ap phase_text (sym are) ∙ sym is)
 
 -- a text that was not too long
 pub short-text : (b : Bool) (text : List Cell) → (◌≡◌ {A = Result (List Cell) TextFault} (Ok text) (Err TooLong) ↔ (b ≡ true)) → b ≡ false

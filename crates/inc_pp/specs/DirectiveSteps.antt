@@ -14,7 +14,7 @@ use Rattle.inc_expand.specs.Expansion.{Place, Meter}
 use Rattle.inc_pp.specs.declared.causes.Cause.{Cause}
 use Rattle.inc_pp.specs.declared.causes.Cause.TheVariants as cause
 use Rattle.inc_pp.specs.declared.settings.Missing.{Missing}
-use Rattle.inc_pp.specs.Directives.{Numbering, counted, line_operands, names_once, put_pragma, renumbered, with_system, with_table}
+use Rattle.inc_pp.specs.Directives.{Numbering, counted, line_operands, names_once, put_pragma, renumbered, with_system, with_table, is_stacking, restacked}
 use Rattle.inc_pp.specs.Includes.{Header, header_in, is_done, most_reads, not_found, with_once}
 use Rattle.inc_pp.specs.Runs.{put_out}
 use Rattle.inc_pp.specs.Steps.{expansion_at}
@@ -45,11 +45,16 @@ renumbered_at h last place table meter ts =
     expansion_at place table meter (line_operands ts) >>= λ r.
     ok_or (renumbered table.language h last (counted ts r.0)) cause.BadLine >>= λ n. Ok (n, r.1)
 
+-- what a pragma changes that puts a definition aside, or takes it back
+abbrev pub restacked_by : List Tok → State → Result State Cause
+restacked_by ts s = restacked (drop 2 ts) s.table >>= λ t. Ok (with_table t s)
+
 -- what a pragma changes
-abbrev pub pragma_by : (marks : Option Place) → ℕ → List Tok → State → State
+abbrev pub pragma_by : (marks : Option Place) → ℕ → List Tok → State → Result State Cause
 pragma_by marks file ts s =
-    if names_once (drop 2 ts) then with_once file s
-    else put_out (put_pragma s.table.language marks (line_of_tokens ts) ts) s
+    if names_once (drop 2 ts) then Ok (with_once file s) else
+    if is_stacking s.table.language (drop 2 ts) then restacked_by ts s
+    else Ok (put_out (put_pragma s.table.language marks (line_of_tokens ts) ts) s)
 
 abbrev pub define_by : List Tok → State → Result State Cause
 define_by ts s = caused cause.Define (define (drop 2 ts) s.table) >>= λ t. Ok (with_table t s)
@@ -67,7 +72,7 @@ abbrev pub changed_by : (marks : Option Place) → DirectiveKind → ℕ → Lis
 changed_by marks Define file ts s = define_by ts s
 changed_by marks Undef file ts s = undef_by ts s
 changed_by marks Error file ts s = Err cause.ErrorDirective
-changed_by marks Pragma file ts s = Ok (pragma_by marks file ts s)
+changed_by marks Pragma file ts s = pragma_by marks file ts s
 changed_by marks Foreign file ts s = Err cause.UnknownDirective
 changed_by marks Unknown file ts s = Err cause.UnknownDirective
 changed_by marks _ file ts s = Ok s

@@ -1,5 +1,5 @@
 -- The other directives (ISO/IEC 9899:2018, 6.10.3 to 6.10.7). Choices of this profile: `#pragma once`; other pragmas are put out as they
--- are; `#warning` changes nothing. GNU C has line markers.
+-- are; `#warning` changes nothing. GNU C has line markers, `#pragma push_macro` and `#pragma pop_macro`.
 use Rattle.std.specs.Prelude.{ℕ, ◌+◌, ◌&&◌, ◌||◌, Bool, true, false, List, [], ◌∷◌, Option, Some, None, Result, Ok, Err, if◌then◌else◌, take, drop, nat_le, nat_lt, codes, bytes_eq, pos, ◌-ℤ◌, ℤ, option_map, option_and_then, ok_or}
 use Rattle.std.specs.List.{list_all}
 use Rattle.inc_token.specs.declared.kinds.Language.{Language}
@@ -19,7 +19,7 @@ use Rattle.inc_cond.specs.Constants.{number_in}
 use Rattle.inc_pp.specs.declared.causes.Cause.{Cause}
 use Rattle.inc_pp.specs.declared.causes.Cause.TheVariants as cause
 use Rattle.inc_pp.specs.Includes.{is_plain_string, include_target, included, with_once}
-pub use Rattle.inc_pp.specs.Pragmas.{names_once, put_pragma}
+pub use Rattle.inc_pp.specs.Pragmas.{names_once, put_pragma, is_stacking, restacked}
 use Rattle.inc_pp.specs.Pragmas.{is_gnu}
 use Rattle.inc_pp.specs.Runs.{expanded, marks_in, put_out}
 use Rattle.inc_pp.specs.Sections.{operands}
@@ -96,11 +96,13 @@ abbrev pub with_system : Language → List Tok → Here → Here
 with_system language ts h =
     record h { standing = record h.standing { is_system = h.standing.is_system || (nat_lt 0 h.standing.level && names_system language ts) } }
 
--- `#pragma once` has its file read once; any other pragma is put out as it is, or not at all
-abbrev pub after_pragma : File → FileLine → State → Here → State
+-- `#pragma once` has its file read once; `#pragma push_macro` puts a definition aside, and `#pragma pop_macro` takes it back; any other
+-- pragma is put out as it is, or not at all
+abbrev pub after_pragma : File → FileLine → State → Here → Result State Cause
 after_pragma f l s h =
-    if names_once (operands l) then with_once f.index s
-    else put_out (put_pragma s.table.language (marks_in f h) (line_of_tokens l.tokens) l.tokens) s
+    if names_once (operands l) then Ok (with_once f.index s) else
+    if is_stacking s.table.language (operands l) then (restacked (operands l) s.table >>= λ t. Ok (with_table t s))
+    else Ok (put_out (put_pragma s.table.language (marks_in f h) (line_of_tokens l.tokens) l.tokens) s)
 
 -- what a directive changes that is no include and of no section; `#warning`, `#ident`, `#sccs` and `#` alone change nothing
 abbrev pub changed : DirectiveKind → File → FileLine → State → Here → Result (State × Here) Cause
@@ -110,7 +112,7 @@ changed Line f l s h =
     expanded f h s (line_operands l.tokens) >>= λ r.
     ok_or (renumbered s.table.language h l.last_line (counted l.tokens r.0)) cause.BadLine >>= λ n. Ok (r.1, with_numbering n h)
 changed Error f l s h = Err cause.ErrorDirective
-changed Pragma f l s h = Ok (after_pragma f l s h, with_system s.table.language (operands l) h)
+changed Pragma f l s h = after_pragma f l s h >>= λ t. Ok (t, with_system s.table.language (operands l) h)
 changed Foreign f l s h = Err cause.UnknownDirective
 changed Unknown f l s h = Err cause.UnknownDirective
 changed _ f l s h = Ok (s, h)

@@ -45,7 +45,7 @@ outcome_behind pragma line o is =
 -- the tokens of a pragma's text, if it has one
 abbrev pub tokens_in_text : Language → Option (List Cell) → Result (List Tok) Cause
 tokens_in_text language None = Err BadPragma
-tokens_in_text language (Some text) = tokens_or_bad (token_lines language text)
+tokens_in_text language (Some text) = tokens_or_bad language (token_lines language text)
 
 -- more was put out
 abbrev pub Grows : List OutToken → List OutToken → Type 0

@@ -1,13 +1,19 @@
--- Pragma operators (ISO/IEC 9899:2018, 6.10.9), which GNU C alone has here: what expanded tokens with some of them put out. A choice of
--- this profile: the tokens of an operator's pragma are those of the line that has its string, destringized, after `#pragma`.
-use Rattle.std.specs.Prelude.{ℕ, ◌==◌, ◌&&◌, ◌||◌, Bool, true, false, List, [], ◌∷◌, ◌++◌, Option, Some, None, Result, Ok, Err, if◌then◌else◌, map, drop, codes, bytes_eq}
+-- Pragmas, and pragma operators (ISO/IEC 9899:2018, 6.10.9), which GNU C alone has here: what expanded tokens with some of them put out.
+-- Choices of this profile: the tokens of an operator's pragma are those of the line that has its string, destringized, after `#pragma`;
+-- `push_macro` and `pop_macro` of GNU C are directives alone.
+use Rattle.std.specs.Prelude.{ℕ, ◌==◌, ◌&&◌, ◌||◌, not, Bool, true, false, List, [], ◌∷◌, ◌++◌, Option, Some, None, Result, Ok, Err, if◌then◌else◌, map, drop, codes, bytes_eq, nat_lt, ok_or, option_map, slice_index}
+use Rattle.std.specs.List.{list_all}
 use Rattle.inc_text.specs.Ascii.{backslash, quotation_mark}
 use Rattle.inc_text.specs.PhaseText.{is_too_long, phase_text}
+use Rattle.inc_token.specs.declared.kinds.Kind.{Kind}
+use Rattle.inc_token.specs.declared.kinds.Kind.TheVariants.{Identifier}
 use Rattle.inc_token.specs.declared.kinds.Language.{Language}
 use Rattle.inc_token.specs.declared.kinds.Language.TheVariants.{Gnu}
 use Rattle.inc_token.specs.declared.lines.LexFault.{LexFault}
+use Rattle.inc_token.specs.Spellings.{class_of}
 use Rattle.inc_token.specs.TokenLines.{Tok, TokenLine, token_lines}
-use Rattle.inc_macro.specs.Macros.{first_tokens, is_among, is_identifier_kind}
+use Rattle.inc_directive.specs.LineKinds.{inner_bytes}
+use Rattle.inc_macro.specs.Macros.{Table, first_tokens, is_among, is_identifier_kind, is_spelled, pop_macro, push_macro, stands_first}
 use Rattle.inc_macro.specs.Results.{◌>>=◌}
 use Rattle.inc_expand.specs.Expansion.{Item, Place, item_of, of_source}
 use Rattle.inc_cond.specs.Headers.{is_str_kind}
@@ -47,6 +53,54 @@ is_gnu _ = false
 abbrev pub names_once : List Tok → Bool
 names_once [] = false
 names_once (t ∷ ts) = bytes_eq t.spelling (codes "once")
+
+---- definitions that are put aside
+
+-- pragmas that put the definition of a macro aside, and take it back
+abbrev pub stacking_names : List (List ℕ)
+stacking_names = codes "push_macro" ∷ codes "pop_macro" ∷ []
+
+-- one of them comes first, in GNU C
+abbrev pub is_stacking : Language → List Tok → Bool
+is_stacking language [] = false
+is_stacking language (t ∷ ts) = is_gnu language && is_among t.spelling stacking_names
+
+abbrev pub is_identifier : Option Kind → Bool
+is_identifier (Some Identifier) = true
+is_identifier _ = false
+
+-- an ASCII character other than a backslash
+abbrev pub is_plain_byte : ℕ → Bool
+is_plain_byte b = nat_lt b 128 && not (b == backslash)
+
+-- an identifier of such characters
+abbrev pub is_plain_name : List ℕ → Bool
+is_plain_name text = is_identifier (class_of text) && list_all is_plain_byte text
+
+-- a string literal that has such a name between its quotation marks, and no prefix
+abbrev pub is_name_literal : Tok → Bool
+is_name_literal t = is_str_kind t.kind && ((slice_index t.spelling 0 == quotation_mark) && is_plain_name (inner_bytes t.spelling))
+
+-- the name in such a literal, which a `)` follows: what is behind it does not count
+abbrev pub closed_name : List Tok → Option (List ℕ)
+closed_name [] = None
+closed_name (t ∷ ts) = if is_name_literal t && stands_first (codes ")") ts then Some (inner_bytes t.spelling) else None
+
+-- the name of the macro, after a `(`
+abbrev pub stacked_name : List Tok → Option (List ℕ)
+stacked_name [] = None
+stacked_name (t ∷ ts) = if is_spelled (codes "(") t then closed_name ts else None
+
+-- the macros after such a pragma of a name
+abbrev pub stacked : Tok → (name : List ℕ) → Table → Table
+stacked word name table = if is_spelled (codes "push_macro") word then push_macro name table else pop_macro name table
+
+-- the macros after such a pragma with these tokens
+abbrev pub restacked : List Tok → Table → Result Table Cause
+restacked [] table = Err BadPragma
+restacked (t ∷ ts) table = ok_or (option_map (λ name. stacked t name table) (stacked_name ts)) BadPragma
+
+---- other pragmas
 
 -- which pragmas of gcc are addressed to its preprocessor, and change nothing here
 abbrev pub silent_names : List (List ℕ)
@@ -90,15 +144,19 @@ unescaped (b ∷ c ∷ bs) = if is_escape b c then c ∷ unescaped bs else b ∷
 abbrev pub pragma_text : (literal : List ℕ) → List ℕ
 pragma_text literal = codes "#pragma " ++ unescaped (after_quote literal)
 
-abbrev pub tokens_or_bad : Result (List TokenLine) LexFault → Result (List Tok) Cause
-tokens_or_bad (Ok lines) = Ok (first_tokens lines)
-tokens_or_bad (Err fault) = Err BadPragma
+-- a definition is not put aside, nor taken back, among tokens that are expanded before it is
+abbrev pub operated : Language → List Tok → Result (List Tok) Cause
+operated language ts = if is_stacking language (drop 2 ts) then Err BadPragma else Ok ts
+
+abbrev pub tokens_or_bad : Language → Result (List TokenLine) LexFault → Result (List Tok) Cause
+tokens_or_bad language (Ok lines) = operated language (first_tokens lines)
+tokens_or_bad language (Err fault) = Err BadPragma
 
 -- its tokens
 abbrev pub pragma_tokens : Language → (literal : List ℕ) → Result (List Tok) Cause
 pragma_tokens language literal =
     if is_too_long (pragma_text literal) then Err BadPragma
-    else tokens_or_bad (token_lines language (phase_text (pragma_text literal)))
+    else tokens_or_bad language (token_lines language (phase_text (pragma_text literal)))
 
 ---- operators
 

@@ -35,7 +35,8 @@ pub enum Cause {
     TooDeep,
     /// More than 100,000 files would be read.
     TooManyReads,
-    /// A `_Pragma` is followed by something else than a string literal in parentheses, or its text is no line: a comment in it has no end.
+    /// A `_Pragma` is followed by something else than a string literal in parentheses, or its text is no line: a comment in it has no end;
+    /// or its pragma is `push_macro` or `pop_macro`, or a `#pragma` of these has no name in a string literal in parentheses.
     BadPragma,
 }
 

@@ -9,9 +9,10 @@ ghost use Rattle.inc_expand.specs.Items.{seen_item};
 ghost use Rattle.inc_expand.specs.Places.{place_value};
 ghost use Rattle.inc_macro.specs.Tables.{table_of};
 ghost use Rattle.inc_pp.specs.Directives as spec;
-ghost use Rattle.inc_pp.specs.DirectiveSteps.{changed_by, define_by, pragma_by, renumbered_at, undef_by};
+ghost use Rattle.inc_pp.specs.DirectiveSteps.{changed_by, define_by, pragma_by, renumbered_at, restacked_by, undef_by};
 ghost use Rattle.inc_pp.specs.Includes.{included, most_reads};
-ghost use Rattle.inc_pp.specs.Runs.{with_meter};
+ghost use Rattle.inc_pp.specs.Pragmas.{stacked};
+ghost use Rattle.inc_pp.specs.Runs.{put_out, with_meter};
 ghost use Rattle.inc_pp.specs.StateViews.{state_of};
 ghost use Rattle.inc_pp.specs.Sections.{operands};
 ghost use Rattle.inc_pp.specs.Steps.{place_under};
@@ -25,7 +26,7 @@ use crate::faults::Break;
 use crate::includes::sought;
 use crate::line_numbers::{Here, Numbering, renumbered};
 use crate::lines::{after_first, first_line, operands};
-use crate::pragmas::{names_once, put_tokens};
+use crate::pragmas::{is_stacking, names_once, put_tokens, stacked_name};
 use crate::settings::Settings;
 use crate::states::State;
 use inc_directive::{DirectiveKind, FileLines, LineKind};
@@ -33,6 +34,7 @@ use inc_expand::{Budget, Item, Place};
 use inc_lookup::{FileId, Found, Project};
 use inc_macro::DefineFault;
 use inc_token::{Kind, Token};
+use std::alloc::AllocError;
 
 impl State {
     /// Does what a directive of no if-section in the file `at` says, and answers the file that is to be read of an include, if any.
@@ -169,7 +171,7 @@ impl State {
         match kind {
             DirectiveKind::Define => self.define(tokens),
             DirectiveKind::Undef => self.undef(tokens),
-            DirectiveKind::Pragma => self.put_pragma(tokens, file, marks),
+            DirectiveKind::Pragma => self.obey_pragma(tokens, file, marks),
             DirectiveKind::Error => Err(Break::Stop {
                 line: first_line(tokens),
                 cause: Cause::ErrorDirective,
@@ -219,27 +221,92 @@ impl State {
         }
     }
 
-    /// Has the file read once, or puts another pragma out as it is, or not at all.
-    fn put_pragma(
+    /// Has the file read once, has a definition put aside or taken back, or puts another pragma out as it is, or not at all.
+    fn obey_pragma(
         &mut self,
         tokens: &[Token<'_>],
         file: FileId,
         marks: &Option<Place<'_>>,
     ) -> Result<(), Break>
-        ensures done { OnOk result (state_of self.new
-            ≡ pragma_by (option_map place_value marks.now) file (map seen tokens.now) (state_of self.old)) }
+        ensures done { OnOk result (pragma_by (option_map place_value marks.now) file (map seen tokens.now) (state_of self.old)
+            ≡ Ok (state_of self.new)) }
         ensures reads { (state_of self.new).reads ≡ (state_of self.old).reads }
-        ensures stop { IfErr result (λ fault. fault ≡ Break.NoMemory) }
+        ensures stop { IfErr result (λ fault. IfStop fault (λ line cause. (line ≡ line_of_tokens (map seen tokens.now))
+            × (pragma_by (option_map place_value marks.now) file (map seen tokens.now) (state_of self.old) ≡ Err cause)
+            × (state_of self.new ≡ state_of self.old))) }
     {
         if names_once(operands(tokens)) {
             self.set_once(file)?;
-        } else {
-            let language = self.macros.language();
-            let put = put_tokens(language, tokens);
-            self.output
-                .put_own_line(language, marks, first_line(tokens), put)?;
+            return Ok(());
         }
+        if is_stacking(self.macros.language(), operands(tokens)) {
+            self.restack(tokens)?;
+            return Ok(());
+        }
+        self.put_pragma(tokens, marks)?;
         Ok(())
+    }
+
+    /// Puts the definition of a macro aside or takes it back, by the tokens of the pragma.
+    fn restack(&mut self, tokens: &[Token<'_>]) -> Result<(), Break>
+        ensures done { OnOk result (restacked_by (map seen tokens.now) (state_of self.old) ≡ Ok (state_of self.new)) }
+        ensures reads { (state_of self.new).reads ≡ (state_of self.old).reads }
+        ensures stop { IfErr result (λ fault. IfStop fault (λ line cause. (line ≡ line_of_tokens (map seen tokens.now))
+            × (restacked_by (map seen tokens.now) (state_of self.old) ≡ Err cause)
+            × (state_of self.new ≡ state_of self.old))) }
+    {
+        match operands(tokens) {
+            [word, rest @ ..] => match stacked_name(rest) {
+                Some(name) => {
+                    self.stack(word, name)?;
+                    Ok(())
+                }
+                None => Err(bad_pragma(tokens)),
+            },
+            [] => Err(bad_pragma(tokens)),
+        }
+    }
+
+    /// The same for the macro of this name, by the name of the pragma.
+    fn stack(&mut self, word: &Token<'_>, name: &[u8]) -> Result<(), AllocError>
+        ensures done { OnOk result (state_of self.new
+            ≡ spec.with_table (stacked (seen word.now) name.now (table_of self.old.macros)) (state_of self.old)) }
+        ensures reads { (state_of self.new).reads ≡ (state_of self.old).reads }
+    {
+        if word.spelling == b"push_macro".as_slice() {
+            self.macros.push(name)?;
+            return Ok(());
+        }
+        self.macros.pop(name)?;
+        Ok(())
+    }
+
+    /// Puts a pragma out as it is, or not at all.
+    fn put_pragma(
+        &mut self,
+        tokens: &[Token<'_>],
+        marks: &Option<Place<'_>>,
+    ) -> Result<(), AllocError>
+        ensures done { let language = (table_of self.old.macros).language in OnOk result (state_of self.new
+            ≡ put_out (spec.put_pragma language (option_map place_value marks.now) (line_of_tokens (map seen tokens.now)) (map seen tokens.now))
+            (state_of self.old)) }
+        ensures reads { (state_of self.new).reads ≡ (state_of self.old).reads }
+    {
+        let language = self.macros.language();
+        let put = put_tokens(language, tokens);
+        self.output
+            .put_own_line(language, marks, first_line(tokens), put)?;
+        Ok(())
+    }
+}
+
+/// The stop at a pragma that has to name a macro, and does not.
+fn bad_pragma(tokens: &[Token<'_>]) -> Break
+    ensures { result ≡ Break.Stop (line_of_tokens (map seen tokens.now)) Cause.BadPragma }
+{
+    Break::Stop {
+        line: first_line(tokens),
+        cause: Cause::BadPragma,
     }
 }
 

@@ -88,14 +88,14 @@ pub(crate) fn is_plain_string(item: &Item<'_>) -> bool
 }
 
 /// Whether a text begins with `"`.
-fn begins_with_quote(text: &[u8]) -> bool
+pub(crate) fn begins_with_quote(text: &[u8]) -> bool
     ensures { result ≡ (slice_index text.now 0 == quotation_mark) }
 {
     text.first() == Some(&b'"')
 }
 
 /// A text without its first and its last byte.
-fn inner_bytes(text: &[u8]) -> &[u8]
+pub(crate) fn inner_bytes(text: &[u8]) -> &[u8]
     ensures { result.now ≡ inner_bytes text.now }
 {
     if text.len() < 2 {

@@ -11,7 +11,7 @@ ghost use Rattle.inc_pp.specs.Pragmas as spec;
 use crate::causes::Cause;
 use crate::lines::operands;
 use crate::output::Output;
-use crate::pragmas::{is_gnu, names_once, pragma_line, put_tokens};
+use crate::pragmas::{is_gnu, is_stacking, names_once, pragma_line, put_tokens};
 use inc_expand::{ItemRef, Place, Sink};
 use inc_text::Text;
 use inc_token::{Kind, Language, LexFault, Lines, Token, lex};
@@ -198,8 +198,24 @@ impl<'p> Operators<'p> {
         }
     }
 
-    /// Does what the pragma of a line says.
+    /// Does what the pragma of a line says, unless it would put a definition aside or take one back: the tokens behind it are expanded
+    /// already.
     fn act_on_line(&mut self, tokens: &[Token<'_>], line: u32) -> Result<(), AllocError>
+        requires { self.old.fault ≡ None }
+        ensures same { OnOk result ((is : List Item) → outcome self.new is
+            ≡ outcome_behind (spec.operated self.old.language (map seen tokens.now)) line self.old is) }
+        ensures grows { OnOk result (Grows self.old.output self.new.output) }
+    {
+        if is_stacking(self.language, operands(tokens)) {
+            self.fault = Some(Cause::BadPragma);
+            return Ok(());
+        }
+        self.act_on_other(tokens, line)?;
+        Ok(())
+    }
+
+    /// Does what another pragma of a line says.
+    fn act_on_other(&mut self, tokens: &[Token<'_>], line: u32) -> Result<(), AllocError>
         requires { self.old.fault ≡ None }
         ensures same { OnOk result ((is : List Item) → outcome self.new is
             ≡ outcome_behind (Ok (map seen tokens.now)) line self.old is) }

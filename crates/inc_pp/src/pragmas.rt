@@ -1,16 +1,20 @@
-//! The pragma that a `_Pragma` has in its string literal (ISO/IEC 9899:2018, 6.10.9).
-ghost use Rattle.std.specs.Prelude.{◌≡◌, ◌==◌, ◌++◌, List, IfOk, OnOk, map};
+//! What pragmas say, and the pragma that a `_Pragma` has in its string literal (ISO/IEC 9899:2018, 6.10.9).
+ghost use Rattle.std.specs.Prelude.{◌≡◌, ◌==◌, ◌++◌, List, IfOk, OnOk, codes, map, option_map};
+ghost use Rattle.std.specs.List.{list_all};
 ghost use Rattle.inc_text.specs.Ascii.{quotation_mark};
+ghost use Rattle.inc_token.specs.Spellings.{class_of};
 ghost use Rattle.inc_token.specs.Views.{seen};
 ghost use Rattle.inc_token.specs.TokenLines.{Tok};
 ghost use Rattle.inc_token.specs.declared.kinds.Language.{Language};
-ghost use Rattle.inc_macro.specs.Macros.{is_among};
+ghost use Rattle.inc_directive.specs.LineKinds.{inner_bytes};
+ghost use Rattle.inc_macro.specs.Macros.{is_among, stands_first};
 ghost use Rattle.inc_pp.specs.Operators.{tokens_in_text};
 ghost use Rattle.inc_pp.specs.Pragmas as spec;
 
+use crate::headers::{begins_with_quote, inner_bytes};
 use crate::lines::operands;
 use inc_text::{Text, TextFault, splice_owned};
-use inc_token::{Language, Token};
+use inc_token::{Kind, Language, Token, kind_of};
 use std::alloc::{AllocError, Global};
 
 /// The text of the line that stands for a pragma by its literal; `None` where the line is too long.
@@ -107,6 +111,100 @@ fn is_silent_name(name: &[u8]) -> bool
     name == b"system_header".as_slice()
         || name == b"warning".as_slice()
         || name == b"dependency".as_slice()
+}
+
+/// Whether a pragma with this after its name puts a definition aside, or takes one back.
+pub(crate) fn is_stacking(language: Language, tokens: &[Token<'_>]) -> bool
+    ensures { result ≡ spec.is_stacking language (map seen tokens.now) }
+{
+    match tokens {
+        [] => false,
+        [first, ..] => is_gnu(language) && is_stacking_name(first.spelling),
+    }
+}
+
+/// Whether pragmas of this name do so.
+fn is_stacking_name(name: &[u8]) -> bool
+    ensures { result ≡ is_among name.now spec.stacking_names }
+{
+    name == b"push_macro".as_slice() || name == b"pop_macro".as_slice()
+}
+
+/// The name of the macro whose definition is put aside or taken back, from what is after the name of the pragma.
+pub(crate) fn stacked_name<'a>(tokens: &[Token<'a>]) -> Option<&'a [u8]>
+    ensures { option_map (λ n. n.now) result ≡ spec.stacked_name (map seen tokens.now) }
+{
+    match tokens {
+        [] => None,
+        [opening, rest @ ..] => {
+            if opening.spelling != b"(".as_slice() {
+                return None;
+            }
+            closed_name(rest)
+        }
+    }
+}
+
+/// The name in a string literal that a `)` follows.
+fn closed_name<'a>(tokens: &[Token<'a>]) -> Option<&'a [u8]>
+    ensures { option_map (λ n. n.now) result ≡ spec.closed_name (map seen tokens.now) }
+{
+    match tokens {
+        [] => None,
+        [literal, rest @ ..] => {
+            if is_name_literal(literal) && is_closed(rest) {
+                return Some(inner_bytes(literal.spelling));
+            }
+            None
+        }
+    }
+}
+
+/// Whether a `)` comes first.
+fn is_closed(tokens: &[Token<'_>]) -> bool
+    ensures { result ≡ stands_first (codes ")") (map seen tokens.now) }
+{
+    match tokens {
+        [] => false,
+        [first, ..] => first.spelling == b")".as_slice(),
+    }
+}
+
+/// Whether a token is a string literal with the name of a macro between its quotation marks.
+fn is_name_literal(token: &Token<'_>) -> bool
+    ensures { result ≡ spec.is_name_literal (seen token.now) }
+{
+    token.kind == Kind::Str
+        && begins_with_quote(token.spelling)
+        && is_plain_name(inner_bytes(token.spelling))
+}
+
+/// Whether a text is an identifier that has ASCII characters alone, and no universal character name.
+fn is_plain_name(text: &[u8]) -> bool
+    ensures { result ≡ spec.is_plain_name text.now }
+{
+    is_identifier(text) && has_plain_bytes(text)
+}
+
+/// Whether a text is an identifier.
+fn is_identifier(text: &[u8]) -> bool
+    ensures { result ≡ spec.is_identifier (class_of text.now) }
+{
+    matches!(kind_of(text), Some(Kind::Identifier))
+}
+
+/// Whether a text has ASCII characters alone, and no backslash.
+fn has_plain_bytes(text: &[u8]) -> bool
+    ensures { result ≡ list_all spec.is_plain_byte text.now }
+{
+    text.iter().all(|byte| is_plain_byte(*byte))
+}
+
+/// Whether a byte is an ASCII character other than a backslash.
+fn is_plain_byte(byte: u8) -> bool
+    ensures { result ≡ spec.is_plain_byte byte }
+{
+    byte < 128 && byte != b'\\'
 }
 
 /// Whether `once` comes first.

@@ -36,7 +36,8 @@ use Rattle.inc_graph.proofs.LeadLemmas.{blocker_there, edge_there}
 use Rattle.inc_graph.proofs.LooplessWalks.{chain_of_walk}
 use Rattle.inc_graph.proofs.Walks.{walk_push}
 use Rattle.inc_cut.proofs.Links.{no_meeting}
-use Rattle.inc_macro.specs.Macros.{Table, is_defined, no_macros, with_words}
+use Rattle.inc_macro.specs.Macros.{Definition, Table, is_defined, no_macros, with_words}
+use Rattle.inc_macro.proofs.UndefinedNames.{words_same}
 use Rattle.inc_macro.specs.Results.{◌>>=◌}
 use Rattle.inc_macro.specs.declared.faults.DefineFault.{DefineFault}
 use Rattle.inc_pp.specs.Files.{FileFault, lines_or_fault, tree_of_lines, tree_of}
@@ -364,9 +365,10 @@ module _ (setting : Setting) (listing : Listing) (sources headers : List ℕ) (s
 
     -- after the words no absent name is defined
     words_define_none : (r : Result Table (ℕ × DefineFault)) → IfOk r (λ table. IsTrue (not (list_any (λ name. is_defined name table) setting.undefined)))
-        → IfOk r (AreAbsent IsApart Absent)
-    words_define_none (Ok table) none = λ name absent. none_defined setting.undefined name absent.0 table absent.1 none
-    words_define_none (Err fault) none = tt
+        → IfOk r (λ table. table.aside ≡ λ name. []) → IfOk r (AreAbsent IsApart Absent)
+    words_define_none (Ok table) none aside = λ name absent.
+        none_defined setting.undefined name absent.0 table absent.1 none (ap (λ (a : List ℕ → List (Option Definition)). a name) aside)
+    words_define_none (Err fault) none aside = tt
 
     keeps_out : NeverReads listing setting.language setting.undefined source header cut
     keeps_out words settings outcome same none is =
@@ -375,7 +377,7 @@ module _ (setting : Setting) (listing : Listing) (sources headers : List ℕ) (s
         (near_reads IsApart Absent listing source words settings cut outcome source_apart
         (λ at a tree t. lines_lead at a tree (ap (λ (language : Language). tree_of language listing cut at.file) (sym same) ∙ t))
         (words_define_none (with_words 0 words (no_macros settings.language))
-        (subst (λ (language : Language). DefineNone language words setting.undefined) (sym same) none)) is))
+        (subst (λ (language : Language). DefineNone language words setting.undefined) (sym same) none) (words_same 0 words (no_macros settings.language))) is))
 
 pub cut_keeps_headers_out : CutKeepsHeadersOut
 cut_keeps_headers_out setting listing sources headers starts closure good clear fixed set separates source header begins ends =

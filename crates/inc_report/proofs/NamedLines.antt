@@ -24,7 +24,7 @@ use Rattle.inc_directive.specs.declared.kinds.DirectiveKind.{DirectiveKind}
 use Rattle.inc_directive.specs.declared.kinds.DirectiveKind.TheVariants.{Define}
 use Rattle.inc_lookup.specs.Projects.{each_once, with_path}
 use Rattle.inc_macro.specs.Macros.{Table, is_defined}
-use Rattle.inc_macro.proofs.UndefinedNames.{Lacks, lacks_undefined}
+use Rattle.inc_macro.proofs.UndefinedNames.{IsAbsent, absent_undefined}
 use Rattle.inc_graph.specs.IncludeGraph.{places_defined, undefined_place}
 use Rattle.inc_graph.proofs.LeadLemmas.{contains_cases, contains_first, contains_kept, contains_later, contains_nothing}
 use Rattle.inc_pp.proofs.NamedIncludes.{BeginsWith}
@@ -169,14 +169,14 @@ place_there language names ls l name k line defines is =
           ∙ is)
     ]
 
--- where none of these names is defined, each that has a place among them is not
+-- where none of these names is defined, each that has a place among them is not, and gets no definition back where nothing is put aside
 pub none_defined : (names : List (List ℕ)) (name : List ℕ) (k : ℕ) (table : Table) → undefined_place names name ≡ Some k → IsTrue (not (list_any (λ n. is_defined n table) names))
-    → Lacks name table
-none_defined names name k table is none =
+    → table.aside name ≡ [] → IsAbsent name table
+none_defined names name k table is none aside =
     let found = position-Some (bytes_eq name) names k [] is in
     let same : name ≡ get_or names k [] = (bytes_eq-Decides name (get_or names k [])).0 found.1 in
     let off : list_any (λ n. is_defined n table) names ≡ false = not-true (list_any (λ n. is_defined n table) names) none in
-    lacks_undefined name table (ap (λ n. is_defined n table) same ∙ none_at (λ n. is_defined n table) names k [] off found.0)
+    absent_undefined name table (ap (λ n. is_defined n table) same ∙ none_at (λ n. is_defined n table) names k [] off found.0) aside
 
 with_none : (p : List ℕ → Bool) (done : List (List ℕ)) (name : List ℕ) → list_any p done ≡ false → p name ≡ false → list_any p (with_path done name) ≡ false
 with_none p done name none off =

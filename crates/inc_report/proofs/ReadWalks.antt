@@ -1,7 +1,7 @@
 -- Where each include line of a near file leads to a near file, or begins with a name that no line of a near file defines, a preprocessing
 -- that begins near reads near files alone. A file is near by how it was found.
 use Rattle.std.proofs.Common.{◌≡◌, ◌≢◌, refl, sym, ◌∙◌, ℕ, zero, suc, Bool, true, false, cond, List, [], ◌∷◌, Option, Some, None, Result, Ok, Err, IfOk, length, drop}
-use Rattle.std.specs.Prelude.{IfSome, nat_le, option_map}
+use Rattle.std.specs.Prelude.{IfSome, nat_le, option_map, codes, ok_or}
 use Rattle.std.proofs.lemmas.Result.{IfOk-at_ok}
 use Rattle.inc_directive.specs.Groups.{FileLine, Group, Branches, Empty, Run, Control, Section, Branch, Otherwise, Close, lines_of, lines_of_branches}
 use Rattle.inc_directive.specs.LineKinds.{LineKind, Text, Include, Other, Target, Quoted, Angled, ByName, Computed, Nothing, defined_name, line_of_tokens, search_after}
@@ -15,19 +15,20 @@ use Rattle.inc_lookup.specs.declared.projects.Form.{Form}
 use Rattle.inc_lookup.specs.declared.projects.Form.TheVariants as form
 use Rattle.inc_lookup.specs.declared.projects.Found.{Found}
 use Rattle.inc_lookup.specs.Projects.{Listing, found_place, layout_of, path_at}
-use Rattle.inc_macro.specs.Macros.{Table, define, no_macros, undef, with_words}
+use Rattle.inc_macro.specs.Macros.{Table, define, no_macros, undef, with_words, is_spelled, pop_macro, push_macro}
 use Rattle.inc_macro.specs.Results.{◌>>=◌}
-use Rattle.inc_macro.proofs.UndefinedNames.{Lacks, define_lacks, first_spelling, undef_lacks}
+use Rattle.inc_macro.proofs.UndefinedNames.{IsAbsent, define_absent, first_spelling, pop_absent, push_absent, undef_absent}
 use Rattle.inc_expand.specs.Expansion.{Item}
 use Rattle.inc_pp.specs.declared.causes.Cause.{Cause}
 use Rattle.inc_pp.specs.declared.causes.Cause.TheVariants.{TooDeep, TooManyReads}
 use Rattle.inc_pp.specs.declared.causes.Cause.TheVariants as cause
 use Rattle.inc_pp.specs.declared.settings.Missing.{Missing}
 use Rattle.inc_pp.specs.declared.settings.Missing.TheVariants as missing
-use Rattle.inc_pp.specs.Directives.{line_operands, names_once, changed, control_of}
+use Rattle.inc_pp.specs.Directives.{after_pragma, line_operands, names_once, changed, control_of, with_table}
 use Rattle.inc_pp.specs.Files.{FileFault, tree_of}
 use Rattle.inc_pp.specs.Includes.{Header, after_found, found_from, header_of, is_done, is_import, not_found, wanted, led_to, entered, include_target, included}
 use Rattle.inc_pp.specs.Preprocessing.{Outcome, group_read, section_read, tree_read, file_read, reading, most_depth, named_settings, outcome_of, with_read, preprocessing}
+use Rattle.inc_pp.specs.Pragmas.{is_stacking, restacked, stacked, stacked_name}
 use Rattle.inc_pp.specs.Runs.{expanded, run_put, run_read}
 use Rattle.inc_pp.specs.Sections.{condition_of, operands}
 use Rattle.inc_pp.specs.Settings.{Settings}
@@ -105,11 +106,11 @@ module _ (Near : Found → Type 0) (Absent : List ℕ → Type 0) where
   abbrev pub IsNearRead : ℕ → Type 0
   IsNearRead file = (next : Option ℕ) × Near (record { file = file; next = next })
 
-  -- no absent name is defined
+  -- no absent name is defined, and none gets a definition back
   abbrev pub AreAbsent : Table → Type 0
-  AreAbsent table = (name : List ℕ) → Absent name → Lacks name table
+  AreAbsent table = (name : List ℕ) → Absent name → IsAbsent name table
 
-  -- the files that are read so far are near, and no absent name is defined
+  -- the files that are read so far are near, and no absent name is defined or gets a definition back
   abbrev pub IsNear : State → Type 0
   IsNear s = Each IsNearRead s.reads × AreAbsent s.table
 
@@ -140,9 +141,9 @@ module _ (Near : Found → Type 0) (Absent : List ℕ → Type 0) where
   condition_near (Other Elifndef) f l s h n = keeps_after _ (λ x. keeps_ok n)
   condition_near kind f l s h n = keeps_after _ (λ x. keeps_ok n)
 
-  pragma_near : (b : Bool) (s t : State) → IsNear s → IsNear t → IsNear (cond b s t)
-  pragma_near true s t n m = n
-  pragma_near false s t n m = m
+  either_near : (b : Bool) (s t : State) → IsNear s → IsNear t → IsNear (cond b s t)
+  either_near true s t n m = n
+  either_near false s t n m = m
 
   -- such a line
   abbrev Leads : File → LineKind → List Tok → Type 0
@@ -158,17 +159,42 @@ module _ (Near : Found → Type 0) (Absent : List ℕ → Type 0) where
       → Keeps AreAbsent (caused cause.Define (define (drop 2 ts) table))
   defined_absent ts table apart absent =
       each_absent cause.Define (define (drop 2 ts) table)
-      (λ name a. define_lacks (drop 2 ts) name table (λ same. apart name a (sym (defined_first ts) ∙ same)) (absent name a))
+      (λ name a. define_absent (drop 2 ts) name table (λ same. apart name a (sym (defined_first ts) ∙ same)) (absent name a))
 
   undefined_absent : (ts : List Tok) (table : Table) → AreAbsent table → Keeps (λ (r : Bool × Table). AreAbsent r.1) (caused cause.Define (undef ts table))
-  undefined_absent ts table absent = each_absent cause.Define (undef ts table) (λ name a. undef_lacks ts name table (absent name a))
+  undefined_absent ts table absent = each_absent cause.Define (undef ts table) (λ name a. undef_absent ts name table (absent name a))
+
+  stacked_absent : (word : Tok) (other : List ℕ) (table : Table) → AreAbsent table → AreAbsent (stacked word other table)
+  stacked_absent word other table absent name a = by (is_spelled (codes "push_macro") word)
+    where
+      by : (b : Bool) → IsAbsent name (cond b (push_macro other table) (pop_macro other table))
+      by true = push_absent other name table (absent name a)
+      by false = pop_absent other name table (absent name a)
+
+  restacked_absent : (ts : List Tok) (table : Table) → AreAbsent table → Keeps AreAbsent (restacked ts table)
+  restacked_absent [] table absent = keeps_err
+  restacked_absent (t ∷ ts) table absent = by (stacked_name ts)
+    where
+      by : (o : Option (List ℕ)) → Keeps AreAbsent (ok_or (option_map (λ name. stacked t name table) o) cause.BadPragma)
+      by (Some other) = keeps_ok (stacked_absent t other table absent)
+      by None = keeps_err
+
+  pragma_kept : (a b : Bool) (s t : State) (r : Result State Cause) → IsNear s → Keeps IsNear r → IsNear t → Keeps IsNear (cond a (Ok s) (cond b r (Ok t)))
+  pragma_kept true b s t r n k m = keeps_ok n
+  pragma_kept false true s t r n k m = k
+  pragma_kept false false s t r n k m = keeps_ok m
+
+  after_pragma_near : (f : File) (l : FileLine) (s : State) (h : Here) → IsNear s → Keeps IsNear (after_pragma f l s h)
+  after_pragma_near f l s h n =
+      pragma_kept (names_once (operands l)) (is_stacking s.table.language (operands l)) _ _ (restacked (operands l) s.table >>= λ t. Ok (with_table t s)) n
+      (keeps_then (restacked_absent (operands l) s.table n.1) (λ table absent. keeps_ok (n.0, absent))) n
 
   changed_near : (directive : DirectiveKind) (f : File) (l : FileLine) (s : State) (h : Here) → Leads f (Other directive) l.tokens → IsNear s
       → Keeps IsNearHere (changed directive f l s h)
   changed_near Define f l s h leads n = keeps_then (defined_absent l.tokens s.table leads n.1) (λ table absent. keeps_ok (n.0, absent))
   changed_near Undef f l s h leads n = keeps_then (undefined_absent (operands l) s.table n.1) (λ r absent. keeps_ok (n.0, absent))
   changed_near Line f l s h leads n = keeps_then (expanded_near f h s (line_operands l.tokens) n) (λ r k. keeps_after _ (λ here. keeps_ok k))
-  changed_near Pragma f l s h leads n = keeps_ok (pragma_near (names_once (operands l)) _ _ n n)
+  changed_near Pragma f l s h leads n = keeps_then (after_pragma_near f l s h n) (λ t k. keeps_ok k)
   changed_near Error f l s h leads n = keeps_err
   changed_near Foreign f l s h leads n = keeps_err
   changed_near Unknown f l s h leads n = keeps_err
@@ -200,7 +226,7 @@ module _ (Near : Found → Type 0) (Absent : List ℕ → Type 0) where
 
   after_near : (by : IncludeName) (o : Option Found) (s : State) → IsNear s → IsNear (after_found by o s)
   after_near by None s n = n
-  after_near by (Some at) s n = pragma_near (is_import by) _ _ n n
+  after_near by (Some at) s n = either_near (is_import by) _ _ n n
 
   -- where an include leads, and the state after its expansion
   abbrev IsTarget : Option Found × State → Type 0
@@ -226,7 +252,7 @@ module _ (Near : Found → Type 0) (Absent : List ℕ → Type 0) where
       let header : Header = record { form = form.Angled; name = name } in
       keeps_then (led_near by f s (found_from f by header) leads n) (λ r k. keeps_ok (entered_near f h name r k))
   target_near by (ByName name) f l s h leads n =
-      let none : Keeps (λ r. ⊥) (header_of (ByName name) f l s h) = record { value = no_header_by_name name f l s h leads.1 (n.1 name leads.0) } in
+      let none : Keeps (λ r. ⊥) (header_of (ByName name) f l s h) = record { value = no_header_by_name name f l s h leads.1 (n.1 name leads.0).0 } in
       keeps_then none (λ r never. absurd never)
   target_near by Computed f l s h leads n = absurd leads
   target_near by Nothing f l s h leads n = keeps_err

@@ -16,7 +16,7 @@ updates c = found-less c.self.inside.table.keys c.swap_remove-removed.new.self.k
 pub returns-clause-done : goal.returns-clause-done
 returns-clause-done c =
     let old : Kept = c.args.self.now in
-    let kept : Kept = record { language = c.self.inside.language; entries = entries_of c.self.inside.table.keys } in
+    let kept : Kept = record { language = c.self.inside.language; entries = entries_of c.self.inside.table.keys; stacks = c.self.inside.stacks } in
     let name : List ℕ = c.in_ok-name.name.now in
     let was = c.swap_remove-removed.result in
     let is : is_some (found kept.entries name) ≡ was = found-any name c.self.inside.table.keys ∙ sym c.swap_remove-removed.ensures.found in
@@ -25,7 +25,7 @@ returns-clause-done c =
     (ap (λ (k : Kept). name_at k.language (map seen c.args.tokens.now)) (sym c.self.view_is) ∙ c.in_ok-name.ensures.name)
     ∙ ap answer (sym c.self.view_is)
     ∙ ap (λ (b : Bool). Ok (b, without name (table_of kept) (found kept.entries name))) is
-    ∙ ap (λ (t : Table). Ok (was, t)) (removed c.self.inside.language c.self.inside.table.keys c.swap_remove-removed.new.self.keys name (found kept.entries name) was is (updates c) c.swap_remove-removed.ensures.unchanged c.swap_remove-removed.ensures.len)
+    ∙ ap (λ (t : Table). Ok (was, t)) (removed c.self.inside.language c.self.inside.stacks c.self.inside.table.keys c.swap_remove-removed.new.self.keys name (found kept.entries name) was is (updates c) c.swap_remove-removed.ensures.unchanged c.swap_remove-removed.ensures.len)
 
 pub invariant_of-self : goal.invariant_of-self
 invariant_of-self c = (
