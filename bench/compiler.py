@@ -7,8 +7,8 @@ gcc compiles the text in its place. Where incut stops, the line of the stop goes
 that is compiled. Words that ask for dependencies, as -MMD and -MF, are without effect then. With -E the text of incut is the answer. A command without a
 C source goes to gcc as it is, and so does one that asks for something else of the preprocessor: -M, -MM, -C, -dM and their like.
 
-incut has no -U: gcc's macros and words of -D that it takes away are not handed on. Nor has it -isystem, -iquote and -idirafter: their directories are
-words of -I, where gcc looks for them, though those of -iquote are found for <..> too. With -include and the words of FOREIGN nothing is compiled.
+incut has no -U: gcc's macros and words of -D that it takes away are not handed on. Nor has it -iquote: its directories are words of -I, so that they are
+found for <..> too. With -include and the words of FOREIGN nothing is compiled.
 
 Each source leaves a line in the log of SETUP, in JSON, and so does each command that goes to gcc.
 """
@@ -27,12 +27,11 @@ VALUES = (*FOLDERS, "-D", "-U")
 NEXT = ("-L", "-l", "-MF", "-MT", "-MQ", "-Xlinker", "-Xassembler", "-u", "-T", "-z", "-e", "--param", "-aux-info", "-A")
 # with these gcc prints what incut does not
 OTHER = ("-M", "-MM", "-C", "-CC", "-dM", "-dD", "-dN", "-dI", "-dU")
-# the options that change a compiler's macros begin so
-MACROS = ("-O", "-std", "-ansi", "-f", "-m", "-pthread", "-undef", "-pie", "-no-pie", "-static", "-shared")
+# the options that change a compiler's macros or directories begin so
+MACROS = ("-O", "-std", "-ansi", "-f", "-m", "-pthread", "-undef", "-nostdinc", "-pie", "-no-pie", "-static", "-shared")
 # incut has nothing for these
 FOREIGN = ("-include", "-imacros", "-iprefix", "-iwithprefix", "-isysroot", "--sysroot", "-Xpreprocessor", "-traditional", "@")
-MARKER = re.compile(rb'^# \d+ "([^"\n]*)".*$', re.MULTILINE)
-PATH = re.compile(rb'"([^"]*/[^"]*\.[ch])"')
+MARKER = re.compile(rb'^# \d+ "[^"\n]*"')
 TEXT = (".c", ".h", ".inc", ".def", ".in", ".inl", ".tbl")
 
 
@@ -117,16 +116,14 @@ class Setup:
         return os.path.relpath(path, self.top) if path == self.top or path.startswith(self.top + "/") else path
 
     def include_path(self, command):
-        """The include path as gcc makes it: what is there, each directory once, and those of the system where the system has them."""
-        own = [] if "-nostdinc" in command.flags else self.dirs
-        system = [os.path.abspath(it) for it in (*command.folders["-isystem"], *own, *command.folders["-idirafter"])]
-        first = [os.path.abspath(it) for it in (*command.folders["-iquote"], *command.folders["-I"])]
-        return [self.path(it) for it in dict.fromkeys([*(it for it in first if it not in system), *system]) if os.path.isdir(it)]
+        """The words of the include path whose directories are there."""
+        names = {"-iquote": "-I", **{name: name for name in FOLDERS[1:]}}
+        return [word for name in FOLDERS for it in command.folders[name] if os.path.isdir(it) for word in (names[name], self.path(it))]
 
-    def defines(self, command, gone):
-        """A file with the macros that gcc has from the start with the flags of a command. It is made once for the same flags."""
+    def compiler(self, command, gone):
+        """A file with the macros and the directories that gcc has from the start with the flags of a command. It is made once for the same flags."""
         flags = [it for it in command.flags if it.startswith(MACROS)]
-        path = os.path.join(self.room, "defines-" + hashlib.sha256("\0".join([*flags, "", *sorted(gone)]).encode()).hexdigest()[:20])
+        path = os.path.join(self.room, "compiler-" + hashlib.sha256("\0".join([*flags, "", *sorted(gone)]).encode()).hexdigest()[:20])
         if not os.path.exists(path):
             done, used = run_of([self.describe, "gcc", *flags, "--", *self.asking])
             self.log(kind="macros", own=used)
@@ -180,15 +177,8 @@ def run_of(words, **more):
 
 
 def squeezed(text):
-    """A text without white space and line markers, and with paths in strings in normal form: gcc has them as a directive spells them."""
-    text = b"".join(it for it in text.splitlines() if not MARKER.match(it)).translate(None, b" \t\v\f\r")
-    return PATH.sub(lambda it: b'"' + os.path.normpath(it[1]) + b'"', text)
-
-
-def marked(setup, command, text):
-    """A text whose line markers have gcc's flag for headers of the system, 3, where these are: else gcc warns of what they hold."""
-    folders = tuple(os.fsencode(os.path.join(setup.path(it), "")) for it in (*command.folders["-isystem"], *setup.dirs))
-    return MARKER.sub(lambda it: it[0] + b" 3" if it[1].startswith(folders) and it[0].endswith(b'"') else it[0], text)
+    """A text without white space and line markers."""
+    return b"".join(it for it in text.splitlines() if not MARKER.match(it)).translate(None, b" \t\v\f\r")
 
 
 def by_gcc(setup, command, folders, source):
@@ -211,8 +201,8 @@ def compared(ours, done, used):
 def preprocessed(setup, command, written):
     """The text that incut makes of a source."""
     source, (definitions, gone) = setup.path(written), command.words_and_gone()
-    folders = [word for it in setup.include_path(command) for word in ("-I", it)]
-    words = [*setup.words, "--files", "-", "-0", "--defines", setup.defines(command, gone), *(word for it in definitions for word in ("-D", it)), *folders]
+    folders = setup.include_path(command)
+    words = [*setup.words, "--files", "-", "-0", "--compiler", setup.compiler(command, gone), *(word for it in definitions for word in ("-D", it)), *folders]
     done, used = run_of([setup.program, "pp", "--gnu", *words, "--", source], cwd=setup.top, input=setup.files(source, folders[1::2]))
     entry = {"kind": "unit", "source": source, "seconds": used}
     theirs, used = by_gcc(setup, command, folders, source) if setup.compares or done.returncode else (None, 0)
@@ -222,7 +212,7 @@ def preprocessed(setup, command, written):
         setup.log(**entry, stop=fault, is_refused=theirs.returncode != 0)
         raise Fault(f"{written}: {fault}")
     setup.log(**entry, **(compared(done.stdout, theirs, used) if setup.compares else {}))
-    return marked(setup, command, done.stdout) if setup.words else done.stdout
+    return done.stdout
 
 
 def write_texts(setup, command, room):

@@ -7,7 +7,7 @@ use Rattle.inc_args.specs.Refusals.{refusals}
 
 -- the files of f, whose paths end in NUL, with two search directories
 abbrev pub files : FileWords
-files = record { list = Some (codes "f"); is_null = true; roots = []; dirs = codes "a" ∷ codes "b" ∷ [] }
+files = record { list = Some (codes "f"); is_null = true; roots = []; dirs = codes "a" ∷ codes "b" ∷ []; system = []; last = [] }
 
 abbrev pub cut_words : List Text
 cut_words =
@@ -38,10 +38,11 @@ standard_input_is_scanned = refl
 pub sources_are_preprocessed : meaning (codes "incut" ∷ codes "pp" ∷ codes "--files" ∷ codes "f" ∷ codes "-DA" ∷ codes "x.c" ∷ codes "y.c" ∷ codes "-D" ∷ codes "B=1" ∷ [])
     ≡ record {
       asked = Pp (record {
-        files = record { list = Some (codes "f"); is_null = false; roots = []; dirs = [] };
+        files = record { list = Some (codes "f"); is_null = false; roots = []; dirs = []; system = []; last = [] };
         sources = codes "x.c" ∷ codes "y.c" ∷ [];
         without = None;
         defines = None;
+        compiler = None;
         words = codes "A" ∷ codes "B=1" ∷ [];
         is_missing_empty = false;
         has_markers = false;
@@ -56,7 +57,7 @@ sources_are_preprocessed = refl
 pub sets_are_asked : meaning (codes "incut" ∷ codes "why" ∷ codes "--files" ∷ codes "f" ∷ codes "--from=*.c" ∷ codes "--to" ∷ codes "a.h" ∷ codes "--from" ∷ codes "x" ∷ [])
     ≡ record {
       asked = Why (record {
-        files = record { list = Some (codes "f"); is_null = false; roots = []; dirs = [] };
+        files = record { list = Some (codes "f"); is_null = false; roots = []; dirs = []; system = []; last = [] };
         source = None;
         header = None;
         from = codes "*.c" ∷ codes "x" ∷ [];
@@ -75,7 +76,7 @@ sets_are_asked = refl
 pub sources_are_asked : meaning (codes "incut" ∷ codes "who" ∷ codes "--files" ∷ codes "f" ∷ codes "--chains" ∷ codes "--undefined" ∷ codes "N" ∷ codes "a.h" ∷ [])
     ≡ record {
       asked = Who (record {
-        files = record { list = Some (codes "f"); is_null = false; roots = []; dirs = [] };
+        files = record { list = Some (codes "f"); is_null = false; roots = []; dirs = []; system = []; last = [] };
         source = None;
         header = Some (codes "a.h");
         from = codes "**.c" ∷ [];
@@ -94,7 +95,7 @@ sources_are_asked = refl
 pub edges_are_asked : meaning (codes "incut" ∷ codes "graph" ∷ codes "--from" ∷ codes "a.c" ∷ codes "--drop=a.c:3" ∷ codes "--files" ∷ codes "f" ∷ codes "--from" ∷ codes "b.c" ∷ [])
     ≡ record {
       asked = Graph (record {
-        files = record { list = Some (codes "f"); is_null = false; roots = []; dirs = [] };
+        files = record { list = Some (codes "f"); is_null = false; roots = []; dirs = []; system = []; last = [] };
         source = None;
         header = None;
         from = codes "a.c" ∷ codes "b.c" ∷ [];

@@ -1,4 +1,5 @@
 pub mod Examples
+pub mod OptionWords
 pub mod Rows
 pub mod Simple
 pub mod Subcommands

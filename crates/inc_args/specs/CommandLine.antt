@@ -52,6 +52,12 @@ null = record (flag (codes "null")) { short = Some 48 }
 abbrev pub include : Rule
 include = repeated 73 (codes "include")
 
+abbrev pub isystem : Rule
+isystem = repeated_option (codes "isystem")
+
+abbrev pub idirafter : Rule
+idirafter = repeated_option (codes "idirafter")
+
 abbrev pub without : Rule
 without = option (codes "without")
 
@@ -89,6 +95,9 @@ define = repeated 68 (codes "define")
 
 abbrev pub defines : Rule
 defines = option (codes "defines")
+
+abbrev pub compiler : Rule
+compiler = option (codes "compiler")
 
 abbrev pub missing_empty : Rule
 missing_empty = flag (codes "missing-empty")
@@ -131,9 +140,16 @@ with_rules app rules = fold with_rule app rules
 abbrev pub command : Text → List Rule → App
 command name rules = with_rules (new_app name) rules
 
--- what tells the files of a project, and which directives are taken as removed
+-- what tells the files of a project
+abbrev pub list_rules : List Rule
+list_rules = files ∷ null ∷ root ∷ []
+
+-- in which directories headers are searched, and which directives are taken as removed
+abbrev pub search_rules : List Rule
+search_rules = include ∷ isystem ∷ idirafter ∷ without ∷ []
+
 abbrev pub file_rules : List Rule
-file_rules = files ∷ null ∷ root ∷ include ∷ without ∷ []
+file_rules = list_rules ++ search_rules
 
 -- which places are taken as removed
 abbrev pub drop_rules : List Rule
@@ -153,7 +169,7 @@ form_rules = blank ∷ patch ∷ []
 
 -- which macros are defined, and what is done without a header
 abbrev pub macro_rules : List Rule
-macro_rules = define ∷ defines ∷ missing_empty ∷ lines ∷ []
+macro_rules = define ∷ defines ∷ compiler ∷ missing_empty ∷ lines ∷ []
 
 -- between which files, in builds that do not define some names
 abbrev pub end_rules : List Rule

@@ -7,12 +7,14 @@ use Rattle.inc_args.specs.CommandLine.{incut}
 ---- what may be asked for
 
 -- the files of a project: who lists them, if a word says so, whether NUL ends a path of that list and not a line feed, the folders below
--- which they are found, and the include path in order
+-- which they are found, and the include path: the directories of one's own headers, those of the system's, and the system's last ones
 pub record FileWords : Type 0 where
   pub list : Option Text
   pub is_null : Bool
   pub roots : List Text
   pub dirs : List Text
+  pub system : List Text
+  pub last : List Text
 
 -- sources and headers of a project, without some directives: a word for one of each, or the words of --from and --to; and names that no
 -- build defines
@@ -49,6 +51,8 @@ pub record Preprocessing : Type 0 where
   pub sources : List Text
   pub without : Option Text
   pub defines : Option Text
+  -- what describes a compiler: its macros and the directories of its system's headers
+  pub compiler : Option Text
   -- each word that defines a macro, in order
   pub words : List Text
   -- a header that is not found is an empty file
@@ -107,6 +111,8 @@ files_in rows = record {
   is_null = is_given (codes "null") rows;
   roots = values_of (codes "root") rows;
   dirs = values_of (codes "include") rows;
+  system = values_of (codes "isystem") rows;
+  last = values_of (codes "idirafter") rows;
 }
 
 abbrev pub question_in : List Row → Question
@@ -146,6 +152,7 @@ preprocessing_in rows = record {
   sources = values_of (codes "SOURCE") rows;
   without = first_of (codes "without") rows;
   defines = first_of (codes "defines") rows;
+  compiler = first_of (codes "compiler") rows;
   words = values_of (codes "define") rows;
   is_missing_empty = is_given (codes "missing-empty") rows;
   has_markers = is_given (codes "lines") rows;

@@ -17,6 +17,8 @@ seen_files f = record {
   is_null = f.is_null;
   roots = map (λ r. r.now) f.roots.items;
   dirs = map (λ d. d.now) f.dirs.items;
+  system = map (λ d. d.now) f.system.items;
+  last = map (λ d. d.now) f.last.items;
 }
 
 abbrev pub seen_question : QuestionArgs → Question
@@ -45,6 +47,7 @@ seen_pp p = record {
   sources = map (λ s. s.now) p.sources.items;
   without = option_map (λ w. w.now) p.without;
   defines = option_map (λ d. d.now) p.defines;
+  compiler = option_map (λ c. c.now) p.compiler;
   words = map (λ w. w.now) p.words.items;
   is_missing_empty = p.is_missing_empty;
   has_markers = p.has_markers;

@@ -2,7 +2,7 @@
 ghost use Rattle.std.specs.Prelude.{◌≡◌, ◌∷◌, [], IfOk};
 ghost use Rattle.clap.specs.Words.{app_of};
 ghost use Rattle.inc_args.specs.CommandLine as line;
-ghost use Rattle.inc_args.specs.CommandLine.{end_rules, file_rules, form_rules, graph_rules, incut, limit_rules, macro_rules, note_rules, who_rules, with_rules, drop_rules};
+ghost use Rattle.inc_args.specs.CommandLine.{end_rules, file_rules, form_rules, graph_rules, incut, limit_rules, list_rules, macro_rules, note_rules, search_rules, who_rules, with_rules, drop_rules};
 
 use crate::help::{
     ABOUT, CHECK_NOTES, CUT_NOTES, EXAMPLES, EXTENDED_HELP, GNU_HELP, GRAPH_NOTES, HEADER_HELP,
@@ -30,18 +30,38 @@ fn started<'a>(
         .arg(flag(alloc, "gnu", GNU_HELP))
 }
 
-/// Adds the options that tell the files of a project, and what to take as removed.
+/// Adds the options that tell the files of a project, where headers are searched, and what to take as removed.
 fn with_files<'a>(alloc: Global, command: Command<'a>) -> Result<Command<'a>, AllocError>
     ensures { IfOk result (λ c. app_of c ≡ with_rules (app_of command.entry) file_rules) }
 {
+    // One after the other, so that the stack has the options of one alone.
+    let command = with_list(alloc, command)?;
+    with_search(alloc, command)
+}
+
+/// Adds the options that tell the files of a project.
+fn with_list<'a>(alloc: Global, command: Command<'a>) -> Result<Command<'a>, AllocError>
+    ensures { IfOk result (λ c. app_of c ≡ with_rules (app_of command.entry) list_rules) }
+{
     let root = "Take the C files below DIR, without --files (repeatable) [default: .]";
-    let dirs = "Add DIR to the include path (repeatable)";
-    let without = "Take the directives that MARKS lists as removed; `-` is standard input";
     command
         .arg(files(alloc))?
         .arg(null(alloc))?
-        .arg(repeated_option(alloc, "root", "DIR", root))?
+        .arg(repeated_option(alloc, "root", "DIR", root))
+}
+
+/// Adds the options that tell in which directories headers are searched, and what to take as removed.
+fn with_search<'a>(alloc: Global, command: Command<'a>) -> Result<Command<'a>, AllocError>
+    ensures { IfOk result (λ c. app_of c ≡ with_rules (app_of command.entry) search_rules) }
+{
+    let dirs = "Add DIR to the include path (repeatable)";
+    let system = "Search DIR for system headers, after those of -I (repeatable)";
+    let last = "Search DIR for system headers, after all others (repeatable)";
+    let without = "Take the directives that MARKS lists as removed; `-` is standard input";
+    command
         .arg(repeated(alloc, 'I', "include", "DIR", dirs))?
+        .arg(repeated_option(alloc, "isystem", "DIR", system))?
+        .arg(repeated_option(alloc, "idirafter", "DIR", last))?
         .arg(option(alloc, "without", "MARKS", without))
 }
 
@@ -92,11 +112,13 @@ fn with_macros<'a>(alloc: Global, command: Command<'a>) -> Result<Command<'a>, A
 {
     let define = "Define a macro by NAME, NAME=BODY or 'NAME(PARAMETERS)=BODY' (repeatable)";
     let defines = "Take definitions from the #define lines of FILE; `-` is standard input";
+    let compiler = "Take macros and system directories from the description of a compiler in FILE";
     let missing = "Take a header that is not found as an empty file, and do not stop there";
     let lines = "Print markers `# LINE \"FILE\"`, with which a compiler goes on from the output";
     command
         .arg(repeated(alloc, 'D', "define", "WORD", define))?
         .arg(option(alloc, "defines", "FILE", defines))?
+        .arg(option(alloc, "compiler", "FILE", compiler))?
         .arg(flag(alloc, "missing-empty", missing))?
         .arg(flag(alloc, "lines", lines))
 }

@@ -68,6 +68,9 @@ its path, by its name in an include, or by the end of its path:
 
   incut why -I include src/main.c net/api.h
 
+-I, -isystem and -idirafter name the directories in which headers are searched, as for a compiler: those
+of -isystem come after those of -I, and one that both name is searched after them alone.
+
 To search other files, list them, one path a line, and give --files. One of these makes a list:
 
   git -c core.quotePath=false ls-files --deduplicate '*.c' '*.h' > files.txt
@@ -254,6 +257,11 @@ of `incut why`. Take a compiler's own macros from it:
   gcc -std=c17 -dM -E -x c /dev/null > defines.txt
   incut pp -I include --defines defines.txt src/main.c
 
+To read sources as gcc does, take its description, which names the directories of its headers, too:
+
+  share/describe-compiler gcc > gcc.txt
+  incut pp --gnu --compiler gcc.txt --root . --root /usr/include --root /usr/lib/gcc src/main.c
+
 Of several sources each is printed as it is alone, below a line `source PATH`. Each file is read once,
 whichever of them includes it. After one that stops or is refused the next follows, and the exit
 status is that of the worst:
@@ -263,7 +271,7 @@ status is that of the worst:
 Headers outside of the project are not found, those of the system neither. Take their folders in, or
 let --missing-empty pass over them:
 
-  incut pp --root . --root /usr/include -I include -I /usr/include --defines defines.txt src/main.c
+  incut pp --root . --root /usr/include -I include -isystem /usr/include --defines defines.txt src/main.c
 
 With --lines a marker `# LINE \"FILE\"` is printed where the next token is not from the same line or the
 one after it. So a compiler goes on with the output, and its messages name the lines of the sources:
@@ -272,8 +280,9 @@ one after it. So a compiler goes on with the output, and its messages name the l
     gcc -fpreprocessed -x cpp-output -c -o main.o -
 
 --defines names a file with lines `#define NAME BODY` or `#define NAME(PARAMETERS) BODY`. They come
-before the words of -D. Names that are predefined here, such as __STDC_VERSION__, are skipped. The
-date is `Jan  1 1970`, the time `00:00:00`.
+before the words of -D. --compiler names one that may have lines `dir PATH`, too, for directories that
+are searched after those of -isystem; its definitions come before those of --defines. Names that are
+predefined here, such as __STDC_VERSION__, are skipped. The date is `Jan  1 1970`, the time `00:00:00`.
 
 Where it cannot go on, the last line is `stop C.F LINE PATH`: cause, fault and place. The causes:
 

@@ -2,12 +2,14 @@
 #![tactic(auto)]
 
 mod commands;
+mod compiler_words;
 mod faults;
 mod help;
 mod options;
 mod reading;
 mod requests;
 
+pub use compiler_words::as_options;
 pub use faults::ArgsFault;
 pub use reading::read_args;
 pub use requests::{

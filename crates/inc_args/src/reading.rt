@@ -110,6 +110,7 @@ fn read_pp<'a>(alloc: Global, matches: &ArgMatches<'a>) -> Result<PpArgs<'a>, Al
         sources: values(alloc, matches, "SOURCE")?,
         without: given(matches, "without"),
         defines: given(matches, "defines"),
+        compiler: given(matches, "compiler"),
         words: values(alloc, matches, "define")?,
         is_missing_empty: is_given(matches, "missing-empty"),
         has_markers: is_given(matches, "lines"),
@@ -124,6 +125,8 @@ fn read_files<'a>(alloc: Global, matches: &ArgMatches<'a>) -> Result<FileList<'a
         is_null: is_given(matches, "null"),
         roots: values(alloc, matches, "root")?,
         dirs: values(alloc, matches, "include")?,
+        system: values(alloc, matches, "isystem")?,
+        last: values(alloc, matches, "idirafter")?,
     })
 }
 

@@ -48,8 +48,12 @@ pub struct FileList<'a> {
     pub is_null: bool,
     /// The folders below which they are found.
     pub roots: Vec<&'a str>,
-    /// The include path: the directories to search for headers, in order.
+    /// The directories of one's own headers, in the order in which they are searched.
     pub dirs: Vec<&'a str>,
+    /// Those of the system's headers, which are searched after them.
+    pub system: Vec<&'a str>,
+    /// Those of the system's headers that are searched last.
+    pub last: Vec<&'a str>,
 }
 
 /// The words of a question about sources and headers of a project: a path of each, or globs of both.
@@ -106,6 +110,8 @@ pub struct PpArgs<'a> {
     pub without: Option<&'a str>,
     /// The file that lists definitions, which come before those of the words; `-` is standard input.
     pub defines: Option<&'a str>,
+    /// The file that describes a compiler, by its macros and the directories of its system's headers; `-` is standard input.
+    pub compiler: Option<&'a str>,
     /// Words that define macros, in order.
     pub words: Vec<&'a str>,
     /// Whether a header that is not found is taken as an empty file.

@@ -4,8 +4,9 @@ use Rattle.std.specs.Io.KnownBytes.{Appends}
 use Rattle.inc_token.specs.declared.kinds.Language.{Language}
 use Rattle.inc_text.specs.declared.devices.ReadFault.{ReadFault}
 use Rattle.inc_lookup.specs.Given.{FailsAfter, HoldsOfGiven}
+use Rattle.inc_lookup.specs.IncludePath.{NamedDir}
 use Rattle.inc_lookup.specs.Projects.{Layout}
-use Rattle.inc_pp.specs.Settings.{marked_settings, usual_settings}
+use Rattle.inc_pp.specs.Settings.{found_in_settings, marked_settings, usual_settings}
 use Rattle.inc_pp.specs.declared.settings.Missing.{Missing}
 use Rattle.inc_pp.specs.declared.settings.Missing.TheVariants.{Empty, Stop}
 use Rattle.inc_report.specs.PpTexts.{IsNextPp, IsPpBy, are_several}
@@ -15,6 +16,8 @@ use Rattle.inc_report.specs.Writing.{WritesEach, is_of_certificate, unread_of}
 use Rattle.inc_report.specs.declared.outcome.End.{End}
 use Rattle.inc_report.specs.declared.outcome.RunFault.{RunFault}
 use Rattle.inc_args.specs.Meaning.{Preprocessing}
+use Rattle.inc_inputs.specs.Defines.{described_dirs}
+use Rattle.inc_inputs.specs.IncludePath.{dir_names, include_path}
 use Rattle.inc_inputs.specs.Inputs.{Gives, listed}
 use Rattle.inc_cli.specs.Outputs.{Following, Output, ended}
 use Rattle.inc_inputs.specs.PpTexts.{PpTexts, pp_texts}
@@ -35,24 +38,28 @@ pub record PpAsked : Type 0 where
   pub layout : Layout
   pub question : PpQuestion
 
--- by the texts, nothing more being read: the words of the list come before those of the command line
+-- the include path by the words and by what describes a compiler
+abbrev pub searched : Preprocessing → PpTexts → List NamedDir
+searched p texts = include_path p.files (described_dirs texts.compiler.text)
+
+-- by the texts, nothing more being read: the words of the compiler come first, and those of the command line last
 abbrev pub pp_asked : {S : Type 0} → Language → Preprocessing → PpTexts → Step S PpAsked
 pp_asked language p texts =
-    then (comes_to (listed_layout (paths_in p.files texts.list) p.files.dirs)) (λ layout.
+    then (comes_to (listed_layout (paths_in p.files texts.list) (dir_names (searched p texts)))) (λ layout.
     comes_to (Ok (record {
       paths = paths_in p.files texts.list;
       layout = layout;
       question = record {
         sources = p.sources;
-        words = texts.words ++ p.words;
-        settings = marked_settings p.has_markers (usual_settings language (missing_of p.is_missing_empty));
+        words = texts.compiler.words ++ texts.defines ++ p.words;
+        settings = found_in_settings (searched p texts) (marked_settings p.has_markers (usual_settings language (missing_of p.is_missing_empty)));
         without = texts.without;
       };
     })))
 
 abbrev pub pp_of : {S : Type 0} → Gives S → Language → Preprocessing → Step S PpAsked
 pp_of gives language p =
-    unless (are_twice (p.files.list ∷ p.without ∷ p.defines ∷ [])) input_twice (then (pp_texts gives language p) (λ texts. pp_asked language p texts))
+    unless (are_twice (p.files.list ∷ p.without ∷ p.compiler ∷ p.defines ∷ [])) input_twice (then (pp_texts gives language p) (λ texts. pp_asked language p texts))
 
 ---- what is printed
 

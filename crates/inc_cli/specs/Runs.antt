@@ -5,6 +5,7 @@ use Rattle.inc_lookup.specs.Projects.{Layout}
 use Rattle.inc_report.specs.Terms as report
 use Rattle.inc_args.specs.Meaning.{Limits, Question}
 use Rattle.inc_inputs.specs.Ends.{are_ends, asked_ends}
+use Rattle.inc_inputs.specs.IncludePath.{dir_names, include_path}
 use Rattle.inc_inputs.specs.Inputs.{Gives}
 use Rattle.inc_inputs.specs.Places.{places_of}
 use Rattle.inc_inputs.specs.Reports.{input_twice, no_ends}
@@ -30,7 +31,7 @@ headers_if false to = None
 abbrev pub asked_by : {S : Type 0} → Language → (has_headers : Bool) → Question → Limits → Texts → Step S Asked
 asked_by language has_headers q l texts =
     then (judged (AreCosts (unwrap_or l.costs []) texts.costs)) (λ costs.
-    then (comes_to (listed_layout (paths_in q.files texts.list) q.files.dirs)) (λ layout.
+    then (comes_to (listed_layout (paths_in q.files texts.list) (dir_names (include_path q.files [])))) (λ layout.
     then (comes_to (asked_ends layout q)) (λ ends.
     then (comes_to (places_of layout q l texts.without texts.fixed)) (λ places.
     comes_to (Ok (record {

@@ -2,7 +2,7 @@
 ghost use Rattle.std.specs.Prelude.{◌≡◌, ◌≢◌, ◌++◌, Err, false, map, IfOk};
 ghost use Rattle.inc_args.specs.Views.{seen_pp};
 ghost use Rattle.inc_cli.specs.Outputs.{IsRun};
-ghost use Rattle.inc_cli.specs.Preprocessings.{IsPreprocessed, PrintsEach, missing_of, pp_asked, pp_of};
+ghost use Rattle.inc_cli.specs.Preprocessings.{IsPreprocessed, PrintsEach, missing_of, pp_asked, pp_of, searched};
 ghost use Rattle.inc_inputs.specs.Reports.{out_of_memory};
 ghost use Rattle.inc_cli.specs.Views.{output_of, pp_asked_in, seen_end};
 ghost use Rattle.inc_inputs.specs.Views.{pp_texts_in};
@@ -12,10 +12,10 @@ use crate::questions::end_of;
 use crate::runs::Setup;
 use inc_args::PpArgs;
 use inc_inputs::{
-    Failure, Inputs, ListedFiles, PpTexts, are_twice, bytes_of, list_paths, listed_project,
-    path_end_in, read_pp_texts,
+    Failure, Inputs, ListedFiles, PpTexts, are_twice, bytes_of, include_path, list_paths,
+    listed_project, path_end_in, read_pp_texts,
 };
-use inc_lookup::Project;
+use inc_lookup::{NamedDir, Project};
 use inc_pp::{Missing, Settings};
 use inc_report::{End, PpQuestion, RunFault, run_pp};
 use inc_text::ByteSink;
@@ -34,7 +34,7 @@ pub(crate) fn preprocess<I: Inputs, O: ByteSink>(
         IsRun (pp_of I.gives setup.now.language (seen_pp args.now)) (IsPreprocessed I.gives) inputs
         (output_of (O.written out) (O.written result.1) (O.has_failed result.1)) (seen_end result.0) }
 {
-    if are_twice(&[args.files.list, args.without, args.defines]) {
+    if are_twice(&[args.files.list, args.without, args.compiler, args.defines]) {
         return (Err(Failure::InputTwice), out);
     }
     let mut inputs = inputs;
@@ -66,18 +66,21 @@ fn preprocess_texts<I: Inputs, O: ByteSink>(
     let Ok(paths) = list_paths(alloc, &texts.list, path_end_in(&args.files)) else {
         return (Err(Failure::NoMemory), out);
     };
-    let Ok(words) = all_words(alloc, &texts.words, &args.words) else {
+    let Ok(words) = all_words(alloc, texts, &args.words) else {
         return (Err(Failure::NoMemory), out);
     };
     let Ok(sources) = bytes_of(alloc, &args.sources) else {
         return (Err(Failure::NoMemory), out);
     };
-    let project = match listed_project(alloc, setup.seed, &paths, &args.files.dirs) {
+    let Ok(dirs) = searched(setup, args, texts) else {
+        return (Err(Failure::NoMemory), out);
+    };
+    let project = match listed_project(alloc, setup.seed, &paths, &dirs) {
         Ok(project) => project,
         Err(failure) => return (Err(failure), out),
     };
     let settings = Settings::usual(setup.language, missing_of(args.is_missing_empty));
-    let settings = settings.with_markers(args.has_markers);
+    let settings = settings.with_markers(args.has_markers).with_dirs(&dirs);
     let question = PpQuestion {
         sources: &sources,
         words: &words,
@@ -125,16 +128,29 @@ fn missing_of(is_empty: bool) -> Missing
     }
 }
 
-/// The words of a list of definitions, and then those of the command line.
+/// The include path by the words and by what describes a compiler.
+fn searched<'a>(
+    setup: &Setup,
+    args: &PpArgs<'a>,
+    texts: &'a PpTexts,
+) -> Result<Vec<NamedDir<'a>>, AllocError>
+    ensures { IfOk result (λ dirs. dirs.items ≡ searched (seen_pp args.now) (pp_texts_in texts.now)) }
+{
+    let compiler = texts.compiler.dirs(setup.alloc)?;
+    include_path(setup.alloc, setup.seed, &args.files, &compiler)
+}
+
+/// The words that define macros: those of the compiler, those of the list of definitions, and then those of the command line.
 fn all_words<'a>(
     alloc: Global,
-    defined: &'a [Vec<u8>],
+    texts: &'a PpTexts,
     words: &[&'a str],
 ) -> Result<Vec<&'a [u8]>, AllocError>
-    ensures { IfOk result (λ all. map (λ w. w.now) all.items
-        ≡ map (λ d. d.items) defined.now ++ map (λ w. w.now) words.now) }
+    ensures { let t = pp_texts_in texts.now in IfOk result (λ all. map (λ w. w.now) all.items
+        ≡ t.compiler.words ++ t.defines ++ map (λ w. w.now) words.now) }
 {
-    let mut all = slices_of(alloc, defined)?;
+    let mut all = slices_of(alloc, &texts.compiler.words)?;
+    all.extend_from_slice(&slices_of(alloc, &texts.defines)?)?;
     all.extend_from_slice(&bytes_of(alloc, words)?)?;
     Ok(all)
 }

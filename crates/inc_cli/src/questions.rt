@@ -8,6 +8,7 @@ ghost use Rattle.inc_cli.specs.Questions.{IsAnswered, IsPrinted, IsPromised, Pri
 ghost use Rattle.inc_inputs.specs.Reports.{out_of_memory, report_of};
 ghost use Rattle.inc_cli.specs.Runs.{asked_by, asked_named, asked_of, headers_if};
 ghost use Rattle.inc_inputs.specs.ProjectLists.{paths_in};
+ghost use Rattle.inc_inputs.specs.IncludePath.{include_path};
 ghost use Rattle.inc_inputs.specs.Texts.{AreCosts};
 ghost use Rattle.inc_cli.specs.Views.{asked_in, output_of, seen_command, seen_end, texts_of};
 ghost use Rattle.inc_report.specs.Questions.{FailsAt};
@@ -20,9 +21,10 @@ use inc_args::{LimitArgs, QuestionArgs};
 use inc_graph::{Cost, Mark};
 use inc_inputs::{
     Failure, Inputs, ListedFiles, Places, Texts, are_ends, are_twice, asked_ends, asked_places,
-    bytes_of_words, costs_of, list_paths, listed_project, names_failure, path_end_in, read_texts,
+    bytes_of_words, costs_of, include_path, list_paths, listed_project, names_failure, path_end_in,
+    read_texts,
 };
-use inc_lookup::Project;
+use inc_lookup::{NamedDir, Project};
 use inc_report::{
     End, Limits, Question, RunFault, run_blank, run_check, run_cut, run_graph, run_patch, run_who,
     run_why,
@@ -90,6 +92,8 @@ struct Opened<'t> {
     costs: Vec<Cost<'t>>,
     /// The names that no build defines.
     undefined: Vec<&'t [u8]>,
+    /// The include path.
+    dirs: Vec<NamedDir<'t>>,
 }
 
 /// Reads what a question rests on, and answers it.
@@ -202,12 +206,12 @@ fn ask_texts<'t, I: Inputs, O: ByteSink>(
         (seen_question question.now))
         inputs (output_of (O.written out) (O.written result.1) (O.has_failed result.1)) (seen_end result.0) }
 {
-    let opened = match open_texts(setup.alloc, question, limits, list, costs) {
+    let opened = match open_texts(setup, question, limits, list, costs) {
         Ok(opened) => opened,
         Err(failure) => return (Err(failure), out),
     };
     let paths = opened.paths.as_slice();
-    let project = match listed_project(setup.alloc, setup.seed, paths, &question.files.dirs) {
+    let project = match listed_project(setup.alloc, setup.seed, paths, &opened.dirs) {
         Ok(project) => project,
         Err(failure) => return (Err(failure), out),
     };
@@ -247,7 +251,7 @@ fn ask_texts<'t, I: Inputs, O: ByteSink>(
 
 /// What the texts of a question hold.
 fn open_texts<'t>(
-    alloc: Global,
+    setup: &Setup,
     question: &'t QuestionArgs<'t>,
     limits: &LimitArgs<'_>,
     list: &'t [u8],
@@ -257,16 +261,20 @@ fn open_texts<'t>(
     ensures paths { IfOk result (λ opened. map (λ p. p.now) opened.paths.items
         ≡ paths_in (seen_question question.now).files list.now) }
     ensures undefined { IfOk result (λ opened. map (λ n. n.now) opened.undefined.items ≡ (seen_question question.now).undefined) }
+    ensures dirs { IfOk result (λ opened. opened.dirs.items ≡ include_path (seen_question question.now).files []) }
     ensures fault { IfErr result (λ failure.
         AreCosts (unwrap_or (seen_limits limits.now).costs []) costs.now (Err (report_of failure))) }
 {
+    let alloc = setup.alloc;
     let costs = costs_of(alloc, costs, limits.costs.unwrap_or(""))?;
     let paths = list_paths(alloc, list, path_end_in(&question.files))?;
     let undefined = bytes_of_words(alloc, &question.undefined)?;
+    let dirs = include_path(alloc, setup.seed, &question.files, &[])?;
     Ok(Opened {
         paths,
         costs,
         undefined,
+        dirs,
     })
 }
 

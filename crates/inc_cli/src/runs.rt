@@ -1,6 +1,7 @@
 //! A run of the program.
-ghost use Rattle.std.specs.Prelude.{◌≡◌, ◌≢◌, Err, false, map};
+ghost use Rattle.std.specs.Prelude.{◌≡◌, ◌≢◌, Err, false, map, option_map, unwrap_or};
 ghost use Rattle.std.specs.String.{string_bytes};
+ghost use Rattle.inc_args.specs.CompilerWords.{as_options};
 ghost use Rattle.inc_args.specs.Meaning.{meaning};
 ghost use Rattle.inc_args.specs.Views.{seen_arguments, seen_forms, seen_languages, seen_question, seen_request};
 ghost use Rattle.inc_cli.specs.Languages.{language_of};
@@ -17,7 +18,8 @@ use crate::reports::report;
 use crate::scan::list_directives;
 use clap::Error;
 use inc_args::{
-    ArgsFault, Arguments, FormArgs, LanguageArgs, LimitArgs, QuestionArgs, Request, read_args,
+    ArgsFault, Arguments, FormArgs, LanguageArgs, LimitArgs, QuestionArgs, Request, as_options,
+    read_args,
 };
 use inc_inputs::{Failure, Inputs, are_ends};
 use inc_text::ByteSink;
@@ -43,9 +45,57 @@ pub enum Ended {
     Usage(Error),
 }
 
-/// Runs the command that the words ask for, the name of the program first. Its answer goes to `out`, and the report of a failure, or the
-/// notes beside an answer, to `messages`. Tables are hashed with the seed, so whoever writes the files must not know it.
+/// Runs the command that the words ask for, the name of the program first; some may be spelled as compilers have them. Its answer goes to
+/// `out`, and the report of a failure, or the notes beside an answer, to `messages`. Tables are hashed with the seed, so whoever writes the
+/// files must not know it.
 pub fn run<I: Inputs, O: ByteSink, E: ByteSink>(
+    alloc: Global,
+    seed: u64,
+    words: &[String],
+    inputs: I,
+    out: O,
+    messages: E,
+) -> (Ended, O, E)
+    requires out { O.has_failed out ≡ false }
+    requires messages { E.has_failed messages ≡ false }
+    ensures refused { IsRefusedRun (as_options (map string_bytes words.now))
+        (output_of (O.written out) (O.written result.1) (O.has_failed result.1))
+        (output_of (E.written messages) (E.written result.2) (E.has_failed result.2)) result.0 }
+    ensures answered { let m = meaning (as_options (map string_bytes words.now)) in
+        IsToldRun m.is_quiet (IsAnswer I.gives (record { opens = I.opens; left = I.Stream.left }) m inputs
+        (output_of (O.written out) (O.written result.1) (O.has_failed result.1)))
+        (output_of (E.written messages) (E.written result.2) (E.has_failed result.2)) result.0 }
+    // What a cut promises: no preprocessing of the source that the words name reads their header, and nothing cheaper separates.
+    ensures promised { let m = meaning (as_options (map string_bytes words.now)) in
+        IsToldRun m.is_quiet (IsPromise I.gives (record { opens = I.opens; left = I.Stream.left }) m inputs
+        (output_of (O.written out) (O.written result.1) (O.has_failed result.1)))
+        (output_of (E.written messages) (E.written result.2) (E.has_failed result.2)) result.0 }
+{
+    match as_options(alloc, words) {
+        Ok(options) => {
+            let words = taken(&options, words);
+            run_options(alloc, seed, words, inputs, out, messages)
+        }
+        Err(_) => {
+            let (status, messages) = tell(&Err(Failure::NoMemory), false, messages);
+            (Ended::Status(status), out, messages)
+        }
+    }
+}
+
+/// Options that are spelled as the command line has them; the words where there are none but these.
+fn taken<'w>(options: &'w Option<Vec<String>>, words: &'w [String]) -> &'w [String]
+    ensures { map string_bytes result.now
+        ≡ unwrap_or (option_map (λ o. map string_bytes o.items) options.now) (map string_bytes words.now) }
+{
+    match options {
+        Some(options) => options,
+        None => words,
+    }
+}
+
+/// The same for words whose options are spelled as the command line has them.
+fn run_options<I: Inputs, O: ByteSink, E: ByteSink>(
     alloc: Global,
     seed: u64,
     words: &[String],
@@ -58,11 +108,12 @@ pub fn run<I: Inputs, O: ByteSink, E: ByteSink>(
     ensures refused { IsRefusedRun (map string_bytes words.now)
         (output_of (O.written out) (O.written result.1) (O.has_failed result.1))
         (output_of (E.written messages) (E.written result.2) (E.has_failed result.2)) result.0 }
-    ensures answered { IsToldRun (meaning (map string_bytes words.now)).is_quiet (IsAnswer I.gives (record { opens = I.opens; left = I.Stream.left }) (meaning (map string_bytes words.now)) inputs
+    ensures answered { let m = meaning (map string_bytes words.now) in
+        IsToldRun m.is_quiet (IsAnswer I.gives (record { opens = I.opens; left = I.Stream.left }) m inputs
         (output_of (O.written out) (O.written result.1) (O.has_failed result.1)))
         (output_of (E.written messages) (E.written result.2) (E.has_failed result.2)) result.0 }
-    // What a cut promises: no preprocessing of the source that the words name reads their header, and nothing cheaper separates.
-    ensures promised { IsToldRun (meaning (map string_bytes words.now)).is_quiet (IsPromise I.gives (record { opens = I.opens; left = I.Stream.left }) (meaning (map string_bytes words.now)) inputs
+    ensures promised { let m = meaning (map string_bytes words.now) in
+        IsToldRun m.is_quiet (IsPromise I.gives (record { opens = I.opens; left = I.Stream.left }) m inputs
         (output_of (O.written out) (O.written result.1) (O.has_failed result.1)))
         (output_of (E.written messages) (E.written result.2) (E.has_failed result.2)) result.0 }
 {

@@ -4,7 +4,7 @@ use Rattle.std.specs.Prelude.{◌&&◌, ◌||◌, filter_map, is_some, not}
 use Rattle.std.specs.List.{range_with_len}
 use Rattle.std.proofs.lemmas.Bool.{cond-false}
 use Rattle.std.proofs.Math.Seq.{take-suc}
-use Rattle.std.proofs.lemmas.List.{append-nil, append_assoc, drop_more, get_or-map, length-map}
+use Rattle.std.proofs.lemmas.List.{append_assoc, drop_more, get_or-map, length-map}
 use Rattle.std.proofs.lemmas.List.Elements.{filter_map-append}
 use Rattle.inc_lookup.specs.Projects.{Layout}
 use Rattle.inc_graph.specs.Marks.{Mark}

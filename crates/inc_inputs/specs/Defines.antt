@@ -1,11 +1,13 @@
 -- Lists of definitions, as compilers print them: `#define NAME BODY` or `#define NAME(PARAMETERS) BODY`, one a line. Each stands for a word
--- of the command line, `NAME=BODY` or `NAME(PARAMETERS)=BODY`.
-use Rattle.std.specs.Prelude.{◌≡◌, ◌≤◌, ℕ, ◌+◌, ◌==◌, ◌&&◌, ◌||◌, not, Bool, true, List, [], ◌∷◌, ◌++◌, Option, Some, None, Result, Ok, Err, if◌then◌else◌, length, take, drop, nat_lt, nat_le, slice_index, codes, bytes_eq}
+-- of the command line, `NAME=BODY` or `NAME(PARAMETERS)=BODY`. A list that describes a compiler has lines `dir PATH`, too, for the
+-- directories of its system's headers.
+use Rattle.std.specs.Prelude.{◌≡◌, ◌≤◌, ℕ, ◌+◌, ◌==◌, ◌&&◌, ◌||◌, not, Bool, true, false, List, [], ◌∷◌, ◌++◌, Option, Some, None, Result, Ok, Err, if◌then◌else◌, length, take, drop, nat_lt, nat_le, slice_index, codes, bytes_eq, filter_map, option_map}
 use Rattle.std.specs.List.{list_any, prefix_len, slice_split}
 use Rattle.inc_text.specs.Ascii.{blank, close_parenthesis, equals, line_feed, open_parenthesis}
 use Rattle.inc_token.specs.declared.kinds.Language.{Language}
 use Rattle.inc_macro.specs.Macros.{is_among, predefined_names}
-use Rattle.inc_inputs.specs.Lists.{without_return}
+use Rattle.inc_inputs.specs.Lists.{list_paths, without_return}
+use Rattle.inc_inputs.specs.declared.file_lists.PathEnd.TheVariants.{LineFeed}
 use Rattle.inc_inputs.specs.declared.defines.Defined.{Defined}
 
 ---- a line
@@ -60,28 +62,55 @@ pub record HasHead (d : Defined) : Type 0 where
 abbrev pub words_for : Language → List ℕ → List (List ℕ)
 words_for language text = if is_among (take (name_len text) text) (predefined_names language) then [] else word_of (head_len text) text ∷ []
 
+---- the lines of a list
+
+-- how a line begins that names a directory of the system's headers
+abbrev pub dir_start : List ℕ
+dir_start = codes "dir "
+
+abbrev pub names_dir : List ℕ → Bool
+names_dir line = nat_lt 4 (length line) && bytes_eq (take 4 line) dir_start
+
+-- the directory that it names
+abbrev pub dir_in : List ℕ → Option (List ℕ)
+dir_in line = if names_dir line then Some (drop 4 line) else None
+
+-- the words of a line: none of one that names a directory, which a list may have that describes a compiler
+abbrev pub words_in : Language → (has_dirs : Bool) → List ℕ → Option (List (List ℕ))
+words_in language has_dirs line = if has_dirs && names_dir line then Some [] else option_map (words_for language) (definition_in line)
+
 -- the words before those of what follows
 abbrev pub with_words : List (List ℕ) → Result (List (List ℕ)) ℕ → Result (List (List ℕ)) ℕ
 with_words words (Ok more) = Ok (words ++ more)
 with_words words (Err line) = Err line
 
--- the words of a line and of those after it; a line that defines nothing is named by its number
-abbrev pub line_words : Language → ℕ → Option (List ℕ) → Result (List (List ℕ)) ℕ → Result (List (List ℕ)) ℕ
-line_words language line None more = Err line
-line_words language line (Some text) more = with_words (words_for language text) more
+-- the words of a line and of those after it; a line that a list may not have is named by its number
+abbrev pub line_words : ℕ → Option (List (List ℕ)) → Result (List (List ℕ)) ℕ → Result (List (List ℕ)) ℕ
+line_words line None more = Err line
+line_words line (Some words) more = with_words words more
 
 -- the words of what follows the last LF: of nothing, none
-abbrev pub last_words : Language → ℕ → List ℕ → Result (List (List ℕ)) ℕ
-last_words language line [] = Ok []
-last_words language line (b ∷ bs) = line_words language line (definition_in (b ∷ bs)) (Ok [])
+abbrev pub last_words : (words_of : List ℕ → Option (List (List ℕ))) → ℕ → List ℕ → Result (List (List ℕ)) ℕ
+last_words words_of line [] = Ok []
+last_words words_of line (b ∷ bs) = line_words line (words_of (b ∷ bs)) (Ok [])
 
 -- the words of lines from this number on, of which each but the last is ended
-abbrev pub words_from : Language → ℕ → List (List ℕ) → Result (List (List ℕ)) ℕ
-words_from language line [] = Ok []
-words_from language line (last ∷ []) = last_words language line last
-words_from language line (l ∷ next ∷ ls) =
-    line_words language line (definition_in (without_return l)) (words_from language (line + 1) (next ∷ ls))
+abbrev pub words_from : (words_of : List ℕ → Option (List (List ℕ))) → ℕ → List (List ℕ) → Result (List (List ℕ)) ℕ
+words_from words_of line [] = Ok []
+words_from words_of line (last ∷ []) = last_words words_of line last
+words_from words_of line (l ∷ next ∷ ls) = line_words line (words_of (without_return l)) (words_from words_of (line + 1) (next ∷ ls))
 
--- the words of a list, in order, or the number of its first line that defines nothing
-abbrev pub defined_words : Language → List ℕ → Result (List (List ℕ)) ℕ
-defined_words language text = words_from language 1 (slice_split (λ b. b == line_feed) text)
+-- the words of a list, in order, or the number of its first line that it may not have
+abbrev pub defined_words : Language → (has_dirs : Bool) → List ℕ → Result (List (List ℕ)) ℕ
+defined_words language has_dirs text = words_from (words_in language has_dirs) 1 (slice_split (λ b. b == line_feed) text)
+
+-- the words of a line come after others, if it may be in the list
+abbrev pub IsTaken : (words : Option (List (List ℕ))) → (old : List (List ℕ)) → (is_taken : Bool) → (new : List (List ℕ)) → Type 0
+IsTaken None old is_taken new = is_taken ≡ false
+IsTaken (Some words) old is_taken new = (is_taken ≡ true) × (new ≡ old ++ words)
+
+---- directories
+
+-- the directories that a list names, in order
+abbrev pub described_dirs : List ℕ → List (List ℕ)
+described_dirs text = filter_map dir_in (list_paths LineFeed text)

@@ -1,5 +1,5 @@
 -- Words that name a header: by its path, by the name that an include has for it, or by the end of its path.
-use Rattle.std.specs.Prelude.{ℕ, Bool, List, [], ◌∷◌, ◌++◌, Option, Some, None, Result, Ok, Err, if◌then◌else◌, bytes_eq, codes, filter, flat_map, is_some}
+use Rattle.std.specs.Prelude.{ℕ, List, [], ◌∷◌, ◌++◌, Option, Some, None, Result, Ok, Err, if◌then◌else◌, bytes_eq, codes, filter, flat_map, is_some}
 use Rattle.inc_lookup.specs.Projects.{Layout, found_as, found_file, path_at}
 use Rattle.inc_lookup.specs.declared.projects.Form.TheVariants.{Angled}
 use Rattle.inc_globs.specs.Globs.{Piece, fits, is_glob, pieces}

@@ -1,6 +1,7 @@
 pub mod Defines
 pub mod Ends
 pub mod HeaderNames
+pub mod IncludePath
 pub mod Inputs
 pub mod Lists
 pub mod MarkLists

@@ -12,6 +12,7 @@ use Rattle.inc_inputs.specs.Texts as texts
 use Rattle.inc_inputs.specs.declared.ends.EndPaths.{EndPaths}
 use Rattle.inc_inputs.specs.declared.failures.Failure.{Failure}
 use Rattle.inc_inputs.specs.declared.places.Places.{Places}
+use Rattle.inc_inputs.specs.declared.pp_texts.Defined.{Defined}
 use Rattle.inc_inputs.specs.declared.pp_texts.PpTexts.{PpTexts}
 use Rattle.inc_inputs.specs.declared.texts.Texts.{Texts}
 
@@ -51,14 +52,18 @@ seen_paths result = seen (λ paths. map (λ p. p.now) paths.items) result
 abbrev pub seen_layout : Result Layout Failure → Result Layout Report
 seen_layout result = seen (λ layout. layout) result
 
+abbrev pub defined_in : Defined → pp.Defined
+defined_in d = record { text = d.text.items; words = map (λ w. w.items) d.words.items }
+
+abbrev pub seen_defined : Result Defined Failure → Result pp.Defined Report
+seen_defined result = seen defined_in result
+
 abbrev pub pp_texts_in : PpTexts → pp.PpTexts
-pp_texts_in t = record { list = t.list.items; words = map (λ w. w.items) t.words.items; without = t.without.items }
+pp_texts_in t =
+    record { list = t.list.items; compiler = defined_in t.compiler; defines = map (λ w. w.items) t.defines.items; without = t.without.items }
 
 abbrev pub seen_pp_texts : Result PpTexts Failure → Result pp.PpTexts Report
 seen_pp_texts result = seen pp_texts_in result
-
-abbrev pub seen_words : Result (Vec (Vec ℕ)) Failure → Result (List (List ℕ)) Report
-seen_words result = seen (λ words. map (λ w. w.items) words.items) result
 
 abbrev pub end_paths_in : EndPaths → ends.EndPaths
 end_paths_in e = record { from = map (λ p. p.now) e.from.items; to = map (λ p. p.now) e.to.items }

@@ -1,12 +1,12 @@
 //! Lists of definitions, as compilers print them.
-ghost use Rattle.std.specs.Prelude.{◌≡◌, ◌≤◌, ◌+◌, ◌==◌, ◌++◌, not, ℕ, Ok, Err, IfSome, map, drop, length, position, slice_index, option_map, IfOk, IfErr, OnOk};
+ghost use Rattle.std.specs.Prelude.{◌≡◌, ◌≤◌, ◌+◌, ◌==◌, ◌++◌, not, ℕ, Ok, Err, IfSome, map, drop, length, position, slice_index, option_map, filter_map, IfOk, IfErr, OnOk};
 ghost use Rattle.std.specs.List.{list_any, prefix_len};
 ghost use Rattle.inc_check.specs.declared.read_texts.CertFault.TheVariants as fault;
-ghost use Rattle.inc_inputs.specs.Defines.{name_len, parameters_len, head_len, HasHead, begins_body, is_head, begins_definition, definition_in, word_of, words_for, defined_words};
+ghost use Rattle.inc_inputs.specs.Defines.{name_len, parameters_len, head_len, HasHead, begins_body, is_head, begins_definition, definition_in, word_of, words_for, words_in, defined_words, described_dirs, dir_in, names_dir, IsTaken};
 ghost use Rattle.inc_macro.specs.Tables.{table_of};
 ghost use Rattle.inc_text.specs.Ascii.{close_parenthesis, equals, line_feed, open_parenthesis};
 
-use crate::file_lists::{first_end, without_return};
+use crate::file_lists::{PathEnd, first_end, list_paths, without_return};
 use inc_check::CertFault;
 use inc_macro::Macros;
 use inc_token::Language;
@@ -15,46 +15,116 @@ use std::alloc::{AllocError, Global};
 /// How a line of a list begins.
 const START: &[u8] = b"#define ";
 
+/// How a line begins that names a directory.
+const DIR_START: &[u8] = b"dir ";
+
 /// The words that stand for the definitions of a list, in order, each as one of the command line: `NAME=BODY` or `NAME(PARAMETERS)=BODY`.
 /// Those of names that are predefined in the language are left out, since these may not be defined. Before an LF a CR is dropped, and after the last line the
-/// LF is optional.
+/// LF is optional. A list that describes a compiler may have lines `dir PATH`, which define nothing.
 pub fn read_defines(
     alloc: Global,
     language: Language,
+    has_dirs: bool,
     text: &[u8],
 ) -> Result<Vec<Vec<u8>>, CertFault>
-    ensures words { IfOk result (λ words. defined_words language text.now ≡ Ok (map (λ w. w.items) words.items)) }
-    ensures fault { IfErr result (λ f. (line : ℕ) → f ≡ fault.Malformed line → defined_words language text.now ≡ Err line) }
+    ensures words { IfOk result (λ words. defined_words language has_dirs text.now ≡ Ok (map (λ w. w.items) words.items)) }
+    ensures fault { IfErr result (λ f. (line : ℕ) → f ≡ fault.Malformed line → defined_words language has_dirs text.now ≡ Err line) }
 {
     // A table without definitions has the predefined names alone.
     let predefined = Macros::new(alloc, 0, language);
-    defined_words(alloc, &predefined, text)
+    defined_words(alloc, &predefined, has_dirs, text)
+}
+
+/// The directories that a list names, in order.
+pub(crate) fn described_dirs<'t>(alloc: Global, text: &'t [u8]) -> Result<Vec<&'t [u8]>, AllocError>
+    ensures { IfOk result (λ dirs. map (λ d. d.now) dirs.items ≡ described_dirs text.now) }
+{
+    let lines = list_paths(alloc, text, PathEnd::LineFeed)?;
+    dirs_in(alloc, &lines)
+}
+
+/// The directories that lines name, in order.
+fn dirs_in<'t>(alloc: Global, lines: &[&'t [u8]]) -> Result<Vec<&'t [u8]>, AllocError>
+    ensures { IfOk result (λ dirs. map (λ d. d.now) dirs.items ≡ filter_map dir_in (map (λ l. l.now) lines.now)) }
+{
+    let mut dirs = Vec::new(alloc);
+    let mut left = lines;
+    while let [line, rest @ ..] = left {
+        if let Some(dir) = dir_in(line) {
+            dirs.push(dir)?;
+        }
+        left = rest;
+    }
+    Ok(dirs)
+}
+
+/// The directory that a line names.
+fn dir_in(line: &[u8]) -> Option<&[u8]>
+    ensures { option_map (λ d. d.now) result ≡ dir_in line.now }
+{
+    if !names_dir(line) {
+        return None;
+    }
+    Some(&line[4..])
+}
+
+/// Whether a line names a directory.
+fn names_dir(line: &[u8]) -> bool
+    ensures { result ≡ names_dir line.now }
+{
+    line.len() > 4 && &line[..4] == DIR_START
 }
 
 /// The words that stand for the definitions of a list, beside a table without definitions.
-fn defined_words(alloc: Global, predefined: &Macros, text: &[u8]) -> Result<Vec<Vec<u8>>, CertFault>
-    ensures words { IfOk result (λ words. defined_words (table_of predefined.now).language text.now ≡ Ok (map (λ w. w.items) words.items)) }
+fn defined_words(
+    alloc: Global,
+    predefined: &Macros,
+    has_dirs: bool,
+    text: &[u8],
+) -> Result<Vec<Vec<u8>>, CertFault>
+    ensures words { IfOk result (λ words. defined_words (table_of predefined.now).language has_dirs text.now ≡ Ok (map (λ w. w.items) words.items)) }
     ensures fault { IfErr result (λ f. (line : ℕ) → f ≡ fault.Malformed line →
-        defined_words (table_of predefined.now).language text.now ≡ Err line) }
+        defined_words (table_of predefined.now).language has_dirs text.now ≡ Err line) }
 {
     let mut words = Vec::new(alloc);
     let mut line = 1;
     let mut at = 0;
     while let Some(length) = first_end(&text[at..], b'\n') {
-        let Some(definition) = definition_in(without_return(&text[at..at + length])) else {
+        let piece = without_return(&text[at..at + length]);
+        if !push_line(alloc, &mut words, predefined, has_dirs, piece)? {
             return Err(CertFault::Malformed { line });
-        };
-        push_word(alloc, &mut words, predefined, definition)?;
+        }
         at += length + 1;
         line += 1;
     }
-    if at < text.len() {
-        let Some(definition) = definition_in(&text[at..]) else {
-            return Err(CertFault::Malformed { line });
-        };
-        push_word(alloc, &mut words, predefined, definition)?;
+    if at == text.len() {
+        return Ok(words);
+    }
+    if !push_line(alloc, &mut words, predefined, has_dirs, &text[at..])? {
+        return Err(CertFault::Malformed { line });
     }
     Ok(words)
+}
+
+/// Adds the words of a line, and reports whether the list may have such a line.
+fn push_line(
+    alloc: Global,
+    words: &mut Vec<Vec<u8>>,
+    predefined: &Macros,
+    has_dirs: bool,
+    line: &[u8],
+) -> Result<bool, AllocError>
+    ensures { IfOk result (λ is_taken. IsTaken (words_in (table_of predefined.now).language has_dirs line.now)
+        (map (λ w. w.items) words.old.items) is_taken (map (λ w. w.items) words.new.items)) }
+{
+    if has_dirs && names_dir(line) {
+        return Ok(true);
+    }
+    let Some(definition) = definition_in(line) else {
+        return Ok(false);
+    };
+    push_word(alloc, words, predefined, definition)?;
+    Ok(true)
 }
 
 /// A definition as it is after `#define `, and how long its name is, without and with its parameters.

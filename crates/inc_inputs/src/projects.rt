@@ -1,11 +1,14 @@
 //! The project that a list names.
 ghost use Rattle.std.specs.Prelude.{◌≡◌, ◌≢◌, Err, IfOk, map};
+ghost use Rattle.inc_args.specs.Views.{seen_files};
+ghost use Rattle.inc_inputs.specs.IncludePath.{dir_names, include_path};
 ghost use Rattle.inc_inputs.specs.Reports.{out_of_memory};
 ghost use Rattle.inc_inputs.specs.Texts.{listed_layout};
 ghost use Rattle.inc_inputs.specs.Views.{seen_layout};
 
 use crate::failures::{Failure, project_failure};
-use inc_lookup::Project;
+use inc_args::FileList;
+use inc_lookup::{NamedDir, Project, include_dirs};
 use std::alloc::{AllocError, Global};
 
 /// The project of files with these paths and of these search directories, with the seed of its table.
@@ -13,16 +16,44 @@ pub fn listed_project<'a>(
     alloc: Global,
     seed: u64,
     paths: &'a [&'a [u8]],
-    dirs: &[&str],
+    dirs: &[NamedDir<'_>],
 ) -> Result<Project<'a>, Failure>
     ensures { seen_layout result ≢ Err out_of_memory →
-        seen_layout result ≡ listed_layout (map (λ p. p.now) paths.now) (map (λ d. d.now) dirs.now) }
+        seen_layout result ≡ listed_layout (map (λ p. p.now) paths.now) (dir_names dirs.now) }
 {
-    let dirs = bytes_of(alloc, dirs)?;
+    let dirs = names_of(alloc, dirs)?;
     match Project::new(alloc, seed, paths, &dirs) {
         Ok(project) => Ok(project),
         Err(fault) => Err(project_failure(alloc, fault, paths, &dirs)?),
     }
+}
+
+/// The include path of a project, in the order in which it is searched, each directory once. The compiler's directories are searched after
+/// those of the words, but for the last ones.
+pub fn include_path<'a>(
+    alloc: Global,
+    seed: u64,
+    files: &FileList<'a>,
+    compiler: &[&'a [u8]],
+) -> Result<Vec<NamedDir<'a>>, AllocError>
+    ensures { IfOk result (λ dirs. dirs.items ≡ include_path (seen_files files.now) (map (λ d. d.now) compiler.now)) }
+{
+    let own = bytes_of(alloc, &files.dirs)?;
+    let mut system = bytes_of(alloc, &files.system)?;
+    system.extend_from_slice(compiler)?;
+    system.extend_from_slice(&bytes_of(alloc, &files.last)?)?;
+    include_dirs(alloc, seed, &own, &system)
+}
+
+/// Directories as they are written.
+fn names_of<'a>(alloc: Global, dirs: &[NamedDir<'a>]) -> Result<Vec<&'a [u8]>, AllocError>
+    ensures { IfOk result (λ names. map (λ n. n.now) names.items ≡ dir_names dirs.now) }
+{
+    let mut names = Vec::with_capacity(alloc, dirs.len())?;
+    for dir in dirs {
+        names.push(dir.name)?;
+    }
+    Ok(names)
 }
 
 /// Words as bytes.

@@ -2,6 +2,7 @@
 pub mod DirectiveLists
 pub mod Given
 pub mod Held
+pub mod IncludePath
 pub mod Paths
 pub mod Projects
 -- how definitions see the values of the program, and what holds of them

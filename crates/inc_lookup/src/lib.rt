@@ -3,6 +3,7 @@
 
 mod directive_sets;
 mod header_names;
+mod include_path;
 pub mod laws;
 mod listings;
 mod name_lists;
@@ -15,6 +16,7 @@ mod simple_names;
 mod sources;
 
 pub use directive_sets::DirectiveSet;
+pub use include_path::{NamedDir, include_dirs};
 pub use listings::LONGEST_PATH;
 pub use name_lists::NameList;
 pub use paths::normalise;

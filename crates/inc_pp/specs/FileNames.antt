@@ -4,11 +4,12 @@
 use Rattle.std.specs.Prelude.{ℕ, zero, suc, ◌+◌, ◌-◌, ◌==◌, ◌||◌, not, Bool, false, List, [], ◌∷◌, ◌++◌, Option, Some, None, if◌then◌else◌, length, slice_get, option_map, option_and_then, nat_lt}
 use Rattle.std.specs.List.{list_any}
 use Rattle.std.specs.Option.{option_map_or}
+use Rattle.inc_lookup.specs.IncludePath.{NamedDir}
 use Rattle.inc_text.specs.Ascii.{slash}
 use Rattle.inc_token.specs.declared.kinds.Language.{Language}
 use Rattle.inc_token.specs.declared.kinds.Language.TheVariants.{Gnu}
 use Rattle.inc_pp.specs.declared.file_names.TheConstants.{LONGEST_SPELLING}
-use Rattle.inc_pp.specs.Settings.{Settings, ShownDir}
+use Rattle.inc_pp.specs.Settings.{Settings}
 
 -- how a file comes to be read
 pub record Standing : Type 0 where
@@ -43,14 +44,14 @@ in_directory dir name = (if needs_slash dir then dir ++ slash ∷ [] else dir) +
 
 -- the path of a file as it is spelled, which is found by a name in a file with the path `includer`, by where an `#include_next` in it
 -- goes on: it is found by an absolute name, beside the includer, or in the directory of the include path before that one
-abbrev pub spelling_at : List ShownDir → (includer : List ℕ) → (name : List ℕ) → (next : Option ℕ) → Option (List ℕ)
+abbrev pub spelling_at : List NamedDir → (includer : List ℕ) → (name : List ℕ) → (next : Option ℕ) → Option (List ℕ)
 spelling_at dirs includer name None = Some name
 spelling_at dirs includer name (Some zero) = Some (up_to_slash includer ++ name)
-spelling_at dirs includer name (Some (suc i)) = option_map (λ (d : ShownDir). in_directory d.name name) (slice_get dirs i)
+spelling_at dirs includer name (Some (suc i)) = option_map (λ (d : NamedDir). in_directory d.name name) (slice_get dirs i)
 
 -- it is found in a directory with system headers
-abbrev pub is_in_system : List ShownDir → (next : Option ℕ) → Bool
-is_in_system dirs (Some (suc i)) = option_map_or (λ (d : ShownDir). d.is_system) (slice_get dirs i) false
+abbrev pub is_in_system : List NamedDir → (next : Option ℕ) → Bool
+is_in_system dirs (Some (suc i)) = option_map_or (λ (d : NamedDir). d.is_system) (slice_get dirs i) false
 is_in_system dirs _ = false
 
 -- the source

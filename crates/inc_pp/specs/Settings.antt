@@ -3,13 +3,9 @@
 use Rattle.std.specs.Prelude.{ℕ, ◌==◌, ◌&&◌, ◌||◌, not, Bool, false, List, [], Option, Some, None, if◌then◌else◌, nat_le, codes, unwrap_or}
 use Rattle.std.specs.List.{list_all}
 use Rattle.inc_text.specs.Ascii.{quotation_mark, backslash}
+use Rattle.inc_lookup.specs.IncludePath.{NamedDir}
 use Rattle.inc_token.specs.declared.kinds.Language.{Language}
 use Rattle.inc_pp.specs.declared.settings.Missing.{Missing}
-
--- a directory of the include path: as the user spells it, and whether its headers are the system's
-pub record ShownDir : Type 0 where
-  pub name : List ℕ
-  pub is_system : Bool
 
 -- language, date and time, what an include does whose file is not found, whether lines are marked, and how files are called
 pub record Settings : Type 0 where
@@ -28,7 +24,7 @@ pub record Settings : Type 0 where
   -- the path by which the source is named; none: that in the list of files
   pub source : Option (List ℕ)
   -- the directories of the include path, in its order, as far as it is known how they are spelled
-  pub dirs : List ShownDir
+  pub dirs : List NamedDir
 
 -- printable ASCII other than `"` and `\`
 abbrev pub is_date_byte : ℕ → Bool
@@ -72,7 +68,7 @@ abbrev pub sourced_settings : (source : List ℕ) → Settings → Settings
 sourced_settings source s = record s { source = Some source }
 
 -- with these directories of the include path
-abbrev pub found_in_settings : (dirs : List ShownDir) → Settings → Settings
+abbrev pub found_in_settings : (dirs : List NamedDir) → Settings → Settings
 found_in_settings dirs s = record s { dirs = dirs }
 
 -- what the source is called; the settings of a preprocessing have a name for it

@@ -2,7 +2,8 @@
 ghost use Rattle.std.specs.Prelude.{◌≡◌, ◌++◌, IfOk, option_map, option_and_then};
 ghost use Rattle.inc_pp.specs.FileNames as spec;
 
-use crate::settings::{Settings, ShownDir};
+use crate::settings::Settings;
+use inc_lookup::NamedDir;
 use inc_token::Language;
 use memchr::memrchr;
 use std::alloc::{AllocError, Global};
@@ -62,7 +63,7 @@ fn in_directory(alloc: Global, dir: &[u8], name: &[u8]) -> Result<Vec<u8>, Alloc
 /// it goes on.
 fn spelling_at(
     alloc: Global,
-    dirs: &[ShownDir<'_>],
+    dirs: &[NamedDir<'_>],
     includer: &[u8],
     name: &[u8],
     next: Option<usize>,
@@ -129,7 +130,7 @@ pub(crate) fn source_spelled(
 }
 
 /// Whether a file is found in a directory with system headers. `next`: where an `#include_next` in it goes on.
-pub(crate) fn is_in_system(dirs: &[ShownDir<'_>], next: Option<usize>) -> bool
+pub(crate) fn is_in_system(dirs: &[NamedDir<'_>], next: Option<usize>) -> bool
     ensures { result ≡ spec.is_in_system dirs.now next }
 {
     match next {

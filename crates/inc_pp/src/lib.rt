@@ -35,5 +35,5 @@ pub use causes::{Cause, Stop};
 pub use files::Files;
 pub use outcomes::{Outcome, PpRefusal, preprocess, preprocess_with};
 pub use output::{OutTokenRef, OutTokens, Output};
-pub use settings::{Missing, Settings, ShownDir};
+pub use settings::{Missing, Settings};
 pub use walks::Job;

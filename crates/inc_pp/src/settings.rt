@@ -3,6 +3,7 @@ ghost use Rattle.std.specs.Prelude.{◌≡◌, Some, None, if◌then◌else◌, 
 ghost use Rattle.std.specs.List.{list_all};
 ghost use Rattle.inc_pp.specs.Settings as spec;
 
+use inc_lookup::NamedDir;
 use inc_token::Language;
 use std::marker::Model;
 
@@ -15,23 +16,6 @@ pub enum Missing {
     Empty,
 }
 
-/// A directory of the include path, as the user knows it.
-#[derive(Drop)]
-pub struct ShownDir<'d> {
-    /// As it is spelled.
-    pub name: &'d [u8],
-    /// Whether its headers are the system's.
-    pub is_system: bool,
-}
-
-impl<'d> Model for ShownDir<'d> {
-    ghost use Rattle.inc_pp.specs.Settings.{ShownDir};
-
-    ghost Value = { ShownDir };
-
-    ghost view = { λ d. record { name = d.name.now; is_system = d.is_system } };
-}
-
 /// Language, date and time, what an include directive does whose header is not found, whether lines are marked, and how files are called.
 #[derive(Drop)]
 pub struct Settings<'n> {
@@ -42,7 +26,7 @@ pub struct Settings<'n> {
     missing: Missing,
     has_markers: bool,
     source: Option<&'n [u8]>,
-    dirs: &'n [ShownDir<'n>],
+    dirs: &'n [NamedDir<'n>],
 }
 
 impl<'n> Model for Settings<'n> {
@@ -111,7 +95,7 @@ impl<'n> Settings<'n> {
         &self,
         has_markers: bool,
         source: Option<&'n [u8]>,
-        dirs: &'n [ShownDir<'n>],
+        dirs: &'n [NamedDir<'n>],
     ) -> Settings<'n>
         ensures { result ≡ record self.now { has_markers = has_markers; source = option_map (λ n. n.now) source.entry; dirs = dirs.now } }
     {
@@ -146,7 +130,7 @@ impl<'n> Settings<'n> {
     /// The same, with the directories of the include path, one for each that the project has, in its order. GNU C calls the headers
     /// in them by their names; markers say which lines are of a system header, in each language. A header of a directory that is not
     /// among them is called by its path in the list of files, and is none of the system's.
-    pub fn with_dirs(&self, dirs: &'n [ShownDir<'n>]) -> Settings<'n>
+    pub fn with_dirs(&self, dirs: &'n [NamedDir<'n>]) -> Settings<'n>
         ensures { result ≡ spec.found_in_settings dirs.now self.now }
     {
         self.with(self.has_markers, self.source, dirs)
@@ -212,7 +196,7 @@ impl<'n> Settings<'n> {
     }
 
     /// The directories of the include path.
-    pub(crate) fn dirs(&self) -> &'n [ShownDir<'n>]
+    pub(crate) fn dirs(&self) -> &'n [NamedDir<'n>]
         ensures { result.now ≡ self.now.dirs }
     {
         self.dirs

@@ -1,8 +1,8 @@
 //! Answers for preprocessing.
 ghost use Rattle.std.specs.Prelude.{◌≤◌, length};
 
-use inc_lookup::{DirectiveId, FileId, HeldFiles, Project};
-use inc_pp::{Missing, Outcome, PpRefusal, Settings, ShownDir, preprocess};
+use inc_lookup::{DirectiveId, FileId, HeldFiles, NamedDir, Project};
+use inc_pp::{Missing, Outcome, PpRefusal, Settings, preprocess};
 use inc_token::{Kind, Language};
 use std::alloc::Global;
 use tests_parts::{
@@ -117,12 +117,12 @@ fn settings_in<'n>(alloc: Global, lines: &str) -> Result<Option<Settings<'n>>, S
 }
 
 /// The directories of the lines `shown DIRECTORY` and `system DIRECTORY`.
-fn shown_in<'a>(alloc: Global, lines: &'a str) -> Result<Vec<ShownDir<'a>>, Stop> {
+fn shown_in<'a>(alloc: Global, lines: &'a str) -> Result<Vec<NamedDir<'a>>, Stop> {
     let mut dirs = Vec::new(alloc);
     for line in lines.split('\n').skip(1) {
         let (word, rest) = split_word(line);
         if word == "shown" || word == "system" {
-            dirs.push(ShownDir {
+            dirs.push(NamedDir {
                 name: rest.as_bytes(),
                 is_system: word == "system",
             })?;

@@ -14,7 +14,7 @@ pub returns-then-are_twice : goal.returns-then-are_twice
 returns-then-are_twice g c not =
     let gives = g.I.Inputs.gives in
     let p = seen_pp c.args.args.now in
-    let twice : are_twice (p.files.list ∷ p.without ∷ p.defines ∷ []) ≡ true = search rules in
+    let twice : are_twice (p.files.list ∷ p.without ∷ p.compiler ∷ p.defines ∷ []) ≡ true = search rules in
     let keeps : Keeps (g.O.ByteSink.written c.args.out) (g.O.ByteSink.written c.args.out) = search rules in
     run_not _ input_twice (then (pp_texts gives c.args.setup.now.language p) (pp_asked c.args.setup.now.language p)) (IsPreprocessed gives) _ _ _ twice refl keeps
 
@@ -23,7 +23,7 @@ returns-in-Ok g c not =
     let gives = g.I.Inputs.gives in
     let p = seen_pp c.args.args.now in
     let next = pp_asked c.args.setup.now.language p in
-    let once : are_twice (p.files.list ∷ p.without ∷ p.defines ∷ []) ≡ false = search rules in
+    let once : are_twice (p.files.list ∷ p.without ∷ p.compiler ∷ p.defines ∷ []) ≡ false = search rules in
     run_unless _ input_twice (then (pp_texts gives c.args.setup.now.language p) next) (IsPreprocessed gives) _ _ _ once
     (run_then (pp_texts gives c.args.setup.now.language p) next (IsPreprocessed gives) _ c.read_pp_texts.new.inputs _ _ (seen_pp_texts c.read_pp_texts.result) (pp_texts_in c.in-Ok.texts)
     (ap seen_pp_texts c.in-Ok.is) c.read_pp_texts.ensures (c.preprocess_texts-ended.ensures not))
@@ -33,7 +33,7 @@ returns-in-Err g c not =
     let gives = g.I.Inputs.gives in
     let p = seen_pp c.args.args.now in
     let next = pp_asked c.args.setup.now.language p in
-    let once : are_twice (p.files.list ∷ p.without ∷ p.defines ∷ []) ≡ false = search rules in
+    let once : are_twice (p.files.list ∷ p.without ∷ p.compiler ∷ p.defines ∷ []) ≡ false = search rules in
     let keeps : Keeps (g.O.ByteSink.written c.args.out) (g.O.ByteSink.written c.args.out) = search rules in
     run_unless _ input_twice (then (pp_texts gives c.args.setup.now.language p) next) (IsPreprocessed gives) _ _ _ once
     (run_err (pp_texts gives c.args.setup.now.language p) next (IsPreprocessed gives) _ c.read_pp_texts.new.inputs _ _ (seen_pp_texts c.read_pp_texts.result) (report_of c.in-Err.failure)

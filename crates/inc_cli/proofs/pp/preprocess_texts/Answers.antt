@@ -2,13 +2,14 @@ use Rattle.std.proofs.Common.{◌≡◌, ◌++◌, Ok, Err, Result, [], refl, ru
 use Rattle.std.specs.Io.KnownBytes.{Keeps}
 use Rattle.inc_args.specs.Views.{seen_pp}
 use Rattle.inc_lookup.specs.Projects.{Layout}
-use Rattle.inc_pp.specs.Settings.{marked_settings, usual_settings}
+use Rattle.inc_pp.specs.Settings.{found_in_settings, marked_settings, usual_settings}
 use Rattle.inc_report.specs.declared.outcome.End.{End}
 use Rattle.inc_report.specs.declared.outcome.RunFault.{RunFault}
 use Rattle.inc_inputs.specs.Inputs.{Gives}
 use Rattle.inc_cli.specs.Outputs.{Answer, Output, ended}
-use Rattle.inc_cli.specs.Preprocessings.{IsPreprocessed, PpAsked, PrintsEach, missing_of}
+use Rattle.inc_cli.specs.Preprocessings.{IsPreprocessed, PpAsked, PrintsEach, missing_of, searched}
 use Rattle.inc_inputs.specs.Reports.{Report, report_of}
+use Rattle.inc_inputs.specs.IncludePath.{dir_names}
 use Rattle.inc_inputs.specs.ProjectLists.{paths_in}
 use Rattle.inc_inputs.specs.Texts.{listed_layout}
 use Rattle.inc_inputs.specs.Steps.{Step, comes_to}
@@ -27,8 +28,8 @@ asked_for language p t layout = record {
   layout = layout;
   question = record {
     sources = p.sources;
-    words = t.words ++ p.words;
-    settings = marked_settings p.has_markers (usual_settings language (missing_of p.is_missing_empty));
+    words = t.compiler.words ++ t.defines ++ p.words;
+    settings = found_in_settings (searched p t) (marked_settings p.has_markers (usual_settings language (missing_of p.is_missing_empty)));
     without = t.without;
   };
 }
@@ -44,9 +45,9 @@ pub returns-in-Err : goal.returns-in-Err
 returns-in-Err g c not =
     let p = seen_pp c.args.args.now in
     let t = pp_texts_in c.args.texts.now in
-    let e : listed_layout (paths_in p.files t.list) p.files.dirs ≡ Err (report_of c.in-Err.failure) = search rules in
+    let e : listed_layout (paths_in p.files t.list) (dir_names (searched p t)) ≡ Err (report_of c.in-Err.failure) = search rules in
     let keeps : Keeps (g.O.ByteSink.written c.args.out) (g.O.ByteSink.written c.args.out) = search rules in
-    run_came_err (listed_layout (paths_in p.files t.list) p.files.dirs) (asked_with c.args.setup.now.language p t) (IsPreprocessed g.I.Inputs.gives) _ _ _ _ e refl keeps
+    run_came_err (listed_layout (paths_in p.files t.list) (dir_names (searched p t))) (asked_with c.args.setup.now.language p t) (IsPreprocessed g.I.Inputs.gives) _ _ _ _ e refl keeps
 
 pub returns : goal.returns
 returns g c not =
@@ -55,10 +56,10 @@ returns g c not =
     let p = seen_pp c.args.args.now in
     let t = pp_texts_in c.args.texts.now in
     let layout = c.in-Ok-listed_project.project in
-    let e : listed_layout (paths_in p.files t.list) p.files.dirs ≡ Ok layout = search rules in
+    let e : listed_layout (paths_in p.files t.list) (dir_names (searched p t)) ≡ Ok layout = search rules in
     let out = output_of (g.O.ByteSink.written c.args.out) (g.O.ByteSink.written c.print_each-ended.result.1) (g.O.ByteSink.has_failed c.print_each-ended.result.1) in
     let answer = seen_end c.end_of.result in
     let told : answer ≡ ended [] (paths_in p.files t.list) [] c.print_each-ended.result.0 = search rules in
-    run_came (listed_layout (paths_in p.files t.list) p.files.dirs) (asked_with language p t) (IsPreprocessed gives) _ _ _ layout e
+    run_came (listed_layout (paths_in p.files t.list) (dir_names (searched p t))) (asked_with language p t) (IsPreprocessed gives) _ _ _ layout e
     (run_here (asked_for language p t layout) (IsPreprocessed gives) _ _ _
     (made gives _ (asked_for language p t layout) _ out _ answer c.print_each-ended.ensures (search rules) told))

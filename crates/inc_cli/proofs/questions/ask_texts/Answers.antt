@@ -19,6 +19,7 @@ use Rattle.inc_inputs.specs.Places.{Places, places_of}
 use Rattle.inc_inputs.specs.Reports.{Report, report_of}
 use Rattle.inc_cli.specs.Runs.{Asked, headers_if}
 use Rattle.inc_inputs.specs.HeaderNames.{header_notes}
+use Rattle.inc_inputs.specs.IncludePath.{dir_names, include_path}
 use Rattle.inc_inputs.specs.ProjectLists.{paths_in}
 use Rattle.inc_inputs.specs.Texts.{AreCosts, Texts, listed_layout}
 use Rattle.inc_inputs.specs.Steps.{Step, comes_to, then}
@@ -49,7 +50,7 @@ abbrev with_layout : {S : Type 0} → Language → (has_headers : Bool) → Ques
 with_layout language has_headers q l t costs layout = then (comes_to (asked_ends layout q)) (with_ends language has_headers q l t costs layout)
 
 abbrev with_costs : {S : Type 0} → Language → (has_headers : Bool) → Question → Limits → Texts → List Cost → Step S Asked
-with_costs language has_headers q l t costs = then (comes_to (listed_layout (paths_in q.files t.list) q.files.dirs)) (with_layout language has_headers q l t costs)
+with_costs language has_headers q l t costs = then (comes_to (listed_layout (paths_in q.files t.list) (dir_names (include_path q.files [])))) (with_layout language has_headers q l t costs)
 
 -- what is answered of what the code asks is answered of what is asked
 made : {S : Type 0} (gives : Gives S) (P : Asked → (old new : S) → Printed → Type 0) (command : Command) (q : Question) (a b : Asked) (old : S) (out : Output)
@@ -94,10 +95,10 @@ returns-in-Err-listed_project-clause-printed g c not =
     let l = seen_limits c.args.limits.now in
     let t = texts_of c.args.list.now c.args.fixed.items c.args.without.items c.args.costs.now in
     let costs = c.in-Ok.opened.costs.items in
-    let e : listed_layout (paths_in q.files t.list) q.files.dirs ≡ Err (report_of c.in-Err-listed_project.failure) = search rules in
+    let e : listed_layout (paths_in q.files t.list) (dir_names (include_path q.files [])) ≡ Err (report_of c.in-Err-listed_project.failure) = search rules in
     let keeps : Keeps (g.O.ByteSink.written c.args.out) (g.O.ByteSink.written c.args.out) = search rules in
     run_judged (AreCosts (unwrap_or l.costs []) t.costs) (with_costs language (has_headers (seen_command c.args.command)) q l t) _ _ _ _ costs c.in-Ok.ensures.costs
-    (run_came_err (listed_layout (paths_in q.files t.list) q.files.dirs) (with_layout language (has_headers (seen_command c.args.command)) q l t costs) _ _ _ _ _ e refl keeps)
+    (run_came_err (listed_layout (paths_in q.files t.list) (dir_names (include_path q.files []))) (with_layout language (has_headers (seen_command c.args.command)) q l t costs) _ _ _ _ _ e refl keeps)
 
 pub returns-in-Err-listed_project-clause-promised : goal.returns-in-Err-listed_project-clause-promised
 returns-in-Err-listed_project-clause-promised g c not =
@@ -106,10 +107,10 @@ returns-in-Err-listed_project-clause-promised g c not =
     let l = seen_limits c.args.limits.now in
     let t = texts_of c.args.list.now c.args.fixed.items c.args.without.items c.args.costs.now in
     let costs = c.in-Ok.opened.costs.items in
-    let e : listed_layout (paths_in q.files t.list) q.files.dirs ≡ Err (report_of c.in-Err-listed_project.failure) = search rules in
+    let e : listed_layout (paths_in q.files t.list) (dir_names (include_path q.files [])) ≡ Err (report_of c.in-Err-listed_project.failure) = search rules in
     let keeps : Keeps (g.O.ByteSink.written c.args.out) (g.O.ByteSink.written c.args.out) = search rules in
     run_judged (AreCosts (unwrap_or l.costs []) t.costs) (with_costs language (has_headers (seen_command c.args.command)) q l t) _ _ _ _ costs c.in-Ok.ensures.costs
-    (run_came_err (listed_layout (paths_in q.files t.list) q.files.dirs) (with_layout language (has_headers (seen_command c.args.command)) q l t costs) _ _ _ _ _ e refl keeps)
+    (run_came_err (listed_layout (paths_in q.files t.list) (dir_names (include_path q.files []))) (with_layout language (has_headers (seen_command c.args.command)) q l t costs) _ _ _ _ _ e refl keeps)
 
 pub returns-in-Err-asked_ends-clause-printed : goal.returns-in-Err-asked_ends-clause-printed
 returns-in-Err-asked_ends-clause-printed g c not =
@@ -119,11 +120,11 @@ returns-in-Err-asked_ends-clause-printed g c not =
     let t = texts_of c.args.list.now c.args.fixed.items c.args.without.items c.args.costs.now in
     let costs = c.in-Ok.opened.costs.items in
     let layout = c.in-Ok-listed_project.project in
-    let e : listed_layout (paths_in q.files t.list) q.files.dirs ≡ Ok layout = search rules in
+    let e : listed_layout (paths_in q.files t.list) (dir_names (include_path q.files [])) ≡ Ok layout = search rules in
     let none : asked_ends layout q ≡ Err (report_of c.in-Err-asked_ends.failure) = search rules in
     let keeps : Keeps (g.O.ByteSink.written c.args.out) (g.O.ByteSink.written c.args.out) = search rules in
     run_judged (AreCosts (unwrap_or l.costs []) t.costs) (with_costs language (has_headers (seen_command c.args.command)) q l t) _ _ _ _ costs c.in-Ok.ensures.costs
-    (run_came (listed_layout (paths_in q.files t.list) q.files.dirs) (with_layout language (has_headers (seen_command c.args.command)) q l t costs) _ _ _ _ layout e
+    (run_came (listed_layout (paths_in q.files t.list) (dir_names (include_path q.files []))) (with_layout language (has_headers (seen_command c.args.command)) q l t costs) _ _ _ _ layout e
     (run_came_err (asked_ends layout q) (with_ends language (has_headers (seen_command c.args.command)) q l t costs layout) _ _ _ _ _ none refl keeps))
 
 pub returns-in-Err-asked_ends-clause-promised : goal.returns-in-Err-asked_ends-clause-promised
@@ -134,11 +135,11 @@ returns-in-Err-asked_ends-clause-promised g c not =
     let t = texts_of c.args.list.now c.args.fixed.items c.args.without.items c.args.costs.now in
     let costs = c.in-Ok.opened.costs.items in
     let layout = c.in-Ok-listed_project.project in
-    let e : listed_layout (paths_in q.files t.list) q.files.dirs ≡ Ok layout = search rules in
+    let e : listed_layout (paths_in q.files t.list) (dir_names (include_path q.files [])) ≡ Ok layout = search rules in
     let none : asked_ends layout q ≡ Err (report_of c.in-Err-asked_ends.failure) = search rules in
     let keeps : Keeps (g.O.ByteSink.written c.args.out) (g.O.ByteSink.written c.args.out) = search rules in
     run_judged (AreCosts (unwrap_or l.costs []) t.costs) (with_costs language (has_headers (seen_command c.args.command)) q l t) _ _ _ _ costs c.in-Ok.ensures.costs
-    (run_came (listed_layout (paths_in q.files t.list) q.files.dirs) (with_layout language (has_headers (seen_command c.args.command)) q l t costs) _ _ _ _ layout e
+    (run_came (listed_layout (paths_in q.files t.list) (dir_names (include_path q.files []))) (with_layout language (has_headers (seen_command c.args.command)) q l t costs) _ _ _ _ layout e
     (run_came_err (asked_ends layout q) (with_ends language (has_headers (seen_command c.args.command)) q l t costs layout) _ _ _ _ _ none refl keeps))
 
 pub returns-in-Err-asked_places-clause-printed : goal.returns-in-Err-asked_places-clause-printed
@@ -149,13 +150,13 @@ returns-in-Err-asked_places-clause-printed g c not =
     let t = texts_of c.args.list.now c.args.fixed.items c.args.without.items c.args.costs.now in
     let costs = c.in-Ok.opened.costs.items in
     let layout = c.in-Ok-listed_project.project in
-    let e : listed_layout (paths_in q.files t.list) q.files.dirs ≡ Ok layout = search rules in
+    let e : listed_layout (paths_in q.files t.list) (dir_names (include_path q.files [])) ≡ Ok layout = search rules in
     let ends = end_paths_in c.in-Ok-asked_ends.ends in
     let there : asked_ends layout q ≡ Ok ends = search rules in
     let none : places_of layout q l t.without t.fixed ≡ Err (report_of c.in-Err-asked_places.failure) = search rules in
     let keeps : Keeps (g.O.ByteSink.written c.args.out) (g.O.ByteSink.written c.args.out) = search rules in
     run_judged (AreCosts (unwrap_or l.costs []) t.costs) (with_costs language (has_headers (seen_command c.args.command)) q l t) _ _ _ _ costs c.in-Ok.ensures.costs
-    (run_came (listed_layout (paths_in q.files t.list) q.files.dirs) (with_layout language (has_headers (seen_command c.args.command)) q l t costs) _ _ _ _ layout e
+    (run_came (listed_layout (paths_in q.files t.list) (dir_names (include_path q.files []))) (with_layout language (has_headers (seen_command c.args.command)) q l t costs) _ _ _ _ layout e
     (run_came (asked_ends layout q) (with_ends language (has_headers (seen_command c.args.command)) q l t costs layout) _ _ _ _ ends there
     (run_came_err (places_of layout q l t.without t.fixed) (with_places language (has_headers (seen_command c.args.command)) q t costs layout ends) _ _ _ _ _ none refl keeps)))
 
@@ -167,13 +168,13 @@ returns-in-Err-asked_places-clause-promised g c not =
     let t = texts_of c.args.list.now c.args.fixed.items c.args.without.items c.args.costs.now in
     let costs = c.in-Ok.opened.costs.items in
     let layout = c.in-Ok-listed_project.project in
-    let e : listed_layout (paths_in q.files t.list) q.files.dirs ≡ Ok layout = search rules in
+    let e : listed_layout (paths_in q.files t.list) (dir_names (include_path q.files [])) ≡ Ok layout = search rules in
     let ends = end_paths_in c.in-Ok-asked_ends.ends in
     let there : asked_ends layout q ≡ Ok ends = search rules in
     let none : places_of layout q l t.without t.fixed ≡ Err (report_of c.in-Err-asked_places.failure) = search rules in
     let keeps : Keeps (g.O.ByteSink.written c.args.out) (g.O.ByteSink.written c.args.out) = search rules in
     run_judged (AreCosts (unwrap_or l.costs []) t.costs) (with_costs language (has_headers (seen_command c.args.command)) q l t) _ _ _ _ costs c.in-Ok.ensures.costs
-    (run_came (listed_layout (paths_in q.files t.list) q.files.dirs) (with_layout language (has_headers (seen_command c.args.command)) q l t costs) _ _ _ _ layout e
+    (run_came (listed_layout (paths_in q.files t.list) (dir_names (include_path q.files []))) (with_layout language (has_headers (seen_command c.args.command)) q l t costs) _ _ _ _ layout e
     (run_came (asked_ends layout q) (with_ends language (has_headers (seen_command c.args.command)) q l t costs layout) _ _ _ _ ends there
     (run_came_err (places_of layout q l t.without t.fixed) (with_places language (has_headers (seen_command c.args.command)) q t costs layout ends) _ _ _ _ _ none refl keeps)))
 
@@ -189,7 +190,7 @@ returns-clause-printed g c not =
     let costs = c.in-Ok.opened.costs.items in
     let layout = c.in-Ok-listed_project.project in
     let out = output_of (g.O.ByteSink.written c.args.out) (g.O.ByteSink.written c.answer-ended.result.1) (g.O.ByteSink.has_failed c.answer-ended.result.1) in
-    let e : listed_layout (paths_in q.files t.list) q.files.dirs ≡ Ok layout = search rules in
+    let e : listed_layout (paths_in q.files t.list) (dir_names (include_path q.files [])) ≡ Ok layout = search rules in
     let ends = end_paths_in c.in-Ok-asked_ends.ends in
     let there : asked_ends layout q ≡ Ok ends = search rules in
     let places = places_in c.in-Ok-asked_places.places in
@@ -201,7 +202,7 @@ returns-clause-printed g c not =
     (search rules) name
     in
     run_judged (AreCosts (unwrap_or l.costs []) t.costs) (with_costs language (has_headers (seen_command c.args.command)) q l t) _ _ _ _ costs c.in-Ok.ensures.costs
-    (run_came (listed_layout (paths_in q.files t.list) q.files.dirs) (with_layout language (has_headers (seen_command c.args.command)) q l t costs) _ _ _ _ layout e
+    (run_came (listed_layout (paths_in q.files t.list) (dir_names (include_path q.files []))) (with_layout language (has_headers (seen_command c.args.command)) q l t costs) _ _ _ _ layout e
     (run_came (asked_ends layout q) (with_ends language (has_headers (seen_command c.args.command)) q l t costs layout) _ _ _ _ ends there
     (run_came (places_of layout q l t.without t.fixed) (with_places language (has_headers (seen_command c.args.command)) q t costs layout ends) _ _ _ _ places placed
     (run_here (asked_for language (has_headers (seen_command c.args.command)) q t costs layout ends places) _ _ _ _
@@ -219,7 +220,7 @@ returns-clause-promised g c not =
     let costs = c.in-Ok.opened.costs.items in
     let layout = c.in-Ok-listed_project.project in
     let out = output_of (g.O.ByteSink.written c.args.out) (g.O.ByteSink.written c.answer-ended.result.1) (g.O.ByteSink.has_failed c.answer-ended.result.1) in
-    let e : listed_layout (paths_in q.files t.list) q.files.dirs ≡ Ok layout = search rules in
+    let e : listed_layout (paths_in q.files t.list) (dir_names (include_path q.files [])) ≡ Ok layout = search rules in
     let ends = end_paths_in c.in-Ok-asked_ends.ends in
     let there : asked_ends layout q ≡ Ok ends = search rules in
     let places = places_in c.in-Ok-asked_places.places in
@@ -231,7 +232,7 @@ returns-clause-promised g c not =
     (search rules) name
     in
     run_judged (AreCosts (unwrap_or l.costs []) t.costs) (with_costs language (has_headers (seen_command c.args.command)) q l t) _ _ _ _ costs c.in-Ok.ensures.costs
-    (run_came (listed_layout (paths_in q.files t.list) q.files.dirs) (with_layout language (has_headers (seen_command c.args.command)) q l t costs) _ _ _ _ layout e
+    (run_came (listed_layout (paths_in q.files t.list) (dir_names (include_path q.files []))) (with_layout language (has_headers (seen_command c.args.command)) q l t costs) _ _ _ _ layout e
     (run_came (asked_ends layout q) (with_ends language (has_headers (seen_command c.args.command)) q l t costs layout) _ _ _ _ ends there
     (run_came (places_of layout q l t.without t.fixed) (with_places language (has_headers (seen_command c.args.command)) q t costs layout ends) _ _ _ _ places placed
     (run_here (asked_for language (has_headers (seen_command c.args.command)) q t costs layout ends places) _ _ _ _

@@ -1,4 +1,4 @@
-use Rattle.std.proofs.Common.{◌≡◌, ◌∙◌, ℕ, List, [], ◌∷◌, ◌++◌, ap, ap₂, codes, refl}
+use Rattle.std.proofs.Common.{◌≡◌, ◌∙◌, ℕ, List, [], ◌∷◌, ◌++◌, ap, ap₂, codes}
 use Rattle.std.proofs.lemmas.List.{append_assoc}
 use Rattle.inc_inputs.proofs.header_names.add_line.Goals as goal
 

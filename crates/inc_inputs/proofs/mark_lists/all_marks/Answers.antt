@@ -1,4 +1,4 @@
-use Rattle.std.proofs.Common.{◌≡◌, ◌+◌, ◌≤◌, Err, None, Some, ℕ, length, ap, refl, sym, ◌∙◌, arith}
+use Rattle.std.proofs.Common.{◌≡◌, ◌+◌, ◌≤◌, Err, ℕ, ap, refl, ◌∙◌, arith}
 use Rattle.inc_inputs.specs.MarkLists.{lines_of, marks_from}
 use Rattle.inc_inputs.proofs.MarkListLemmas.{all_done, place_bad, place_done, place_low}
 use Rattle.inc_inputs.proofs.mark_lists.all_marks.Goals as goal

@@ -1,4 +1,4 @@
-use Rattle.std.proofs.Common.{◌≡◌, ◌+◌, ◌-◌, ◌≤◌, ◌<◌, Err, ℕ, length, ap, ◌∙◌, arith}
+use Rattle.std.proofs.Common.{◌≡◌, ◌+◌, ◌-◌, ◌≤◌, Err, ℕ, ap, ◌∙◌, arith}
 use Rattle.inc_inputs.specs.MarkLists.{first_marks, lines_of}
 use Rattle.inc_inputs.proofs.MarkListLemmas.{first_done, first_missing, first_step, place_bad, place_done, place_low}
 use Rattle.inc_inputs.proofs.mark_lists.first_marks.Goals as goal

@@ -1,7 +1,5 @@
-use Rattle.std.proofs.Common.{◌≡◌, Ok, Err, ℕ, IfOk, IfErr, subst, sym, ap}
-use Rattle.std.specs.Prelude.{[]}
+use Rattle.std.proofs.Common.{◌≡◌, Ok, Err, ℕ, IfOk, IfErr, subst, sym}
 use Rattle.inc_check.specs.declared.read_texts.CertFault.TheVariants as fault
-use Rattle.inc_inputs.specs.MarkLists.{marks_in}
 use Rattle.inc_inputs.proofs.MarkListLemmas.{counted_lines, no_lines, other_lines}
 use Rattle.inc_inputs.proofs.mark_lists.marks_in.Goals as goal
 

@@ -1,4 +1,3 @@
-use Rattle.std.proofs.Common.{◌∙◌, sym, arith}
 use Rattle.inc_inputs.specs.MarkLists.{begins_number, place_from}
 use Rattle.inc_inputs.proofs.PlaceLemmas.{colon_low, place_found, place_none, place_passed}
 use Rattle.inc_inputs.proofs.mark_lists.place_in.Goals as goal

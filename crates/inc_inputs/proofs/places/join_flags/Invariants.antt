@@ -1,4 +1,4 @@
-use Rattle.std.proofs.Common.{◌≡◌, ◌≤◌, false, map}
+use Rattle.std.proofs.Common.{◌≡◌, false, map}
 use Rattle.std.specs.Prelude.{◌&&◌, ◌||◌, not, slice_index_or}
 use Rattle.std.specs.List.{range_with_len}
 use Rattle.inc_inputs.proofs.places.join_flags.Given as goal

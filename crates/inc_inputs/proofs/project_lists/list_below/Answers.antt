@@ -1,4 +1,4 @@
-use Rattle.std.proofs.Common.{◌≡◌, ◌+◌, ◌++◌, ◌∙◌, Ok, ap, arith, length, subst, sym}
+use Rattle.std.proofs.Common.{◌≡◌, ◌+◌, ◌++◌, ◌∙◌, ap, arith, length, subst, sym}
 use Rattle.inc_inputs.specs.Reports.{report_of}
 use Rattle.inc_inputs.specs.Views.{seen_text}
 use Rattle.inc_inputs.proofs.FolderLemmas.{Leads, folder_fault, folder_more, folders_end}

@@ -1,7 +1,6 @@
-use Rattle.std.proofs.Common.{rules, ◌≡◌, Option, Some, None, Bool, true, false, if◌then◌else◌, ap, sym, ◌∙◌}
+use Rattle.std.proofs.Common.{rules, ◌≡◌, Some, None, Bool, false, if◌then◌else◌, ap, sym, ◌∙◌}
 use Rattle.inc_token.specs.Spellings.{class_of}
 use Rattle.inc_macro.specs.Macros.{is_reserved}
-use Rattle.inc_inputs.specs.Reports.{Report}
 use Rattle.inc_inputs.specs.UndefinedNames.{is_identifier, always_defined, no_identifier}
 use Rattle.inc_inputs.proofs.undefined_names.name_failure.Goals as goal
 

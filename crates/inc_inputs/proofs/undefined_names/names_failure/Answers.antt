@@ -1,6 +1,5 @@
-use Rattle.std.proofs.Common.{map}
 use Rattle.inc_inputs.specs.Reports.{report_of}
-use Rattle.inc_inputs.proofs.NameReports.{name_passed, name_found, names_end}
+use Rattle.inc_inputs.proofs.NameReports.{name_passed, name_found}
 use Rattle.inc_inputs.proofs.undefined_names.names_failure.Goals as goal
 
 pub returns-in-Some : goal.returns-in-Some

@@ -1,0 +1,12 @@
+use Rattle.std.proofs.Common.{◌≡◌, map, length}
+use Rattle.std.specs.String.{string_bytes}
+use Rattle.inc_args.specs.CompilerWords.{as_options}
+use Rattle.inc_args.proofs.compiler_words.are_options.Given as goal
+
+-- if those that are left stay, all do
+abbrev pub invariant-loop-left : goal.invariant-loop-left
+invariant-loop-left l =
+    as_options (map string_bytes l.left) ≡ map string_bytes l.left → as_options (map string_bytes l.fn.words) ≡ map string_bytes l.fn.words
+
+abbrev pub decreases-loop-left : goal.decreases-loop-left
+decreases-loop-left l = length l.left
