@@ -203,7 +203,7 @@ def preprocessed(setup, command, written):
     source, (definitions, gone) = setup.path(written), command.words_and_gone()
     folders = setup.include_path(command)
     words = [*setup.words, "--files", "-", "-0", "--compiler", setup.compiler(command, gone), *(word for it in definitions for word in ("-D", it)), *folders]
-    done, used = run_of([setup.program, "pp", "--gnu", *words, "--", source], cwd=setup.top, input=setup.files(source, folders[1::2]))
+    done, used = run_of([setup.program, "pp", "--gnu", "--follow", *words, "--", source], cwd=setup.top, input=setup.files(source, folders[1::2]))
     entry = {"kind": "unit", "source": source, "seconds": used}
     theirs, used = by_gcc(setup, command, folders, source) if setup.compares or done.returncode else (None, 0)
     if done.returncode:

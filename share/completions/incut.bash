@@ -7,18 +7,18 @@ _incut() {
     case $prev in
         -I | --root | --isystem | --idirafter) mapfile -t COMPREPLY < <(compgen -d -- "$cur") && return ;;
         -D | --drop | --keep | --only | --from | --to) return ;;
-        --files | --without | --fixed | --costs | --defines | --compiler) mapfile -t COMPREPLY < <(compgen -f -- "$cur") && return ;;
+        --files | --without | --fixed | --costs | --defines | --compiler | --deps | --status) mapfile -t COMPREPLY < <(compgen -f -- "$cur") && return ;;
     esac
     options="--extended --gnu --help"
     case $command in
         '') options="scan why who graph cut check pp help $options --version" ;;
         help) options="scan why who graph cut check pp" ;;
-        why) options+=" --files --root --null -0 -I --isystem --idirafter --without --drop --quiet -q --undefined --from --to" ;;
-        graph) options+=" --files --root --null -0 -I --isystem --idirafter --without --drop --undefined --from" ;;
-        who) options+=" --files --root --null -0 -I --isystem --idirafter --without --drop --quiet -q --undefined --from --to --chains" ;;
-        cut) options+=" --files --root --null -0 -I --isystem --idirafter --without --drop --undefined --from --to --fixed --keep --only --costs --quiet -q --blank --patch" ;;
-        check) options+=" --files --root --null -0 -I --isystem --idirafter --without --drop --undefined --from --to --fixed --keep --only --costs --quiet -q" ;;
-        pp) options+=" --files --root --null -0 -I --isystem --idirafter --without -D --defines --compiler --missing-empty --lines" ;;
+        why) options+=" --files --root --follow --null -0 -I --isystem --idirafter --without --drop --quiet -q --undefined --from --to" ;;
+        graph) options+=" --files --root --follow --null -0 -I --isystem --idirafter --without --drop --undefined --from" ;;
+        who) options+=" --files --root --follow --null -0 -I --isystem --idirafter --without --drop --quiet -q --undefined --from --to --chains" ;;
+        cut) options+=" --files --root --follow --null -0 -I --isystem --idirafter --without --drop --undefined --from --to --fixed --keep --only --costs --quiet -q --blank --patch" ;;
+        check) options+=" --files --root --follow --null -0 -I --isystem --idirafter --without --drop --undefined --from --to --fixed --keep --only --costs --quiet -q" ;;
+        pp) options+=" --files --root --follow --null -0 -I --isystem --idirafter --without -D --defines --compiler --missing-empty --lines --deps --status" ;;
     esac
     mapfile -t COMPREPLY < <(compgen -W "$options" -- "$cur")
     case $command:$cur in

@@ -7,8 +7,8 @@ ghost use Rattle.std.specs.Prelude.{◌≤◌, length};
 use inc_directive::{DirectiveKind, LineKind, classify};
 use inc_expand::{Budget, Item, Mode, Place, expand};
 use inc_macro::Macros;
-use inc_text::{Reading, Writing, read_file, splice_owned, write_whole};
-use inc_token::{Language, Lines, Token, lex};
+use inc_text::{Language, Reading, Writing, read_file, splice_owned, write_whole};
+use inc_token::{Lines, Token, lex};
 use std::alloc::Global;
 use std::io;
 use std::process::ExitCode;
@@ -35,7 +35,7 @@ fn run(rt: &HostRuntime) -> Result<(), Stop> {
     let Ok(source) = read_file(alloc, &mut Reading::new(rt.reader()), 0) else {
         return Err(Stop);
     };
-    let Ok(text) = splice_owned(alloc, source) else {
+    let Ok(text) = splice_owned(alloc, source, Language::C17) else {
         return Err(Stop);
     };
     let Ok(lines) = lex(alloc, &text, Language::C17) else {

@@ -21,6 +21,7 @@ pub cut_is_asked : meaning cut_words
           (record { is_blank = true; is_patch = false });
       languages = record { is_extended = true; is_gnu = false };
       is_quiet = true;
+      follows = false;
     }
 unfolding clap_on_literals
 cut_is_asked = refl
@@ -30,7 +31,7 @@ unfolding clap_on_literals
 cut_is_taken = refl
 
 -- no command
-pub standard_input_is_scanned : meaning (codes "incut" ∷ []) ≡ record { asked = Scan None; languages = record { is_extended = false; is_gnu = false }; is_quiet = false }
+pub standard_input_is_scanned : meaning (codes "incut" ∷ []) ≡ record { asked = Scan None; languages = record { is_extended = false; is_gnu = false }; is_quiet = false; follows = false }
 unfolding clap_on_literals
 standard_input_is_scanned = refl
 
@@ -46,9 +47,12 @@ pub sources_are_preprocessed : meaning (codes "incut" ∷ codes "pp" ∷ codes "
         words = codes "A" ∷ codes "B=1" ∷ [];
         is_missing_empty = false;
         has_markers = false;
+        deps = None;
+        status = None;
       });
       languages = record { is_extended = false; is_gnu = false };
       is_quiet = false;
+      follows = false;
     }
 unfolding clap_on_literals
 sources_are_preprocessed = refl
@@ -68,6 +72,7 @@ pub sets_are_asked : meaning (codes "incut" ∷ codes "why" ∷ codes "--files" 
       });
       languages = record { is_extended = false; is_gnu = false };
       is_quiet = false;
+      follows = false;
     }
 unfolding clap_on_literals
 sets_are_asked = refl
@@ -87,6 +92,7 @@ pub sources_are_asked : meaning (codes "incut" ∷ codes "who" ∷ codes "--file
       }) true;
       languages = record { is_extended = false; is_gnu = false };
       is_quiet = false;
+      follows = false;
     }
 unfolding clap_on_literals
 sources_are_asked = refl
@@ -106,6 +112,7 @@ pub edges_are_asked : meaning (codes "incut" ∷ codes "graph" ∷ codes "--from
       });
       languages = record { is_extended = false; is_gnu = false };
       is_quiet = false;
+      follows = false;
     }
 unfolding clap_on_literals
 edges_are_asked = refl

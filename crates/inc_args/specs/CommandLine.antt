@@ -48,6 +48,9 @@ root = repeated_option (codes "root")
 abbrev pub null : Rule
 null = record (flag (codes "null")) { short = Some 48 }
 
+abbrev pub follow : Rule
+follow = flag (codes "follow")
+
 -- -I
 abbrev pub include : Rule
 include = repeated 73 (codes "include")
@@ -105,6 +108,12 @@ missing_empty = flag (codes "missing-empty")
 abbrev pub lines : Rule
 lines = flag (codes "lines")
 
+abbrev pub deps : Rule
+deps = option (codes "deps")
+
+abbrev pub status : Rule
+status = option (codes "status")
+
 abbrev pub path : Rule
 path = optional_word (codes "PATH")
 
@@ -142,7 +151,7 @@ command name rules = with_rules (new_app name) rules
 
 -- what tells the files of a project
 abbrev pub list_rules : List Rule
-list_rules = files ∷ null ∷ root ∷ []
+list_rules = files ∷ null ∷ root ∷ follow ∷ []
 
 -- in which directories headers are searched, and which directives are taken as removed
 abbrev pub search_rules : List Rule
@@ -170,6 +179,10 @@ form_rules = blank ∷ patch ∷ []
 -- which macros are defined, and what is done without a header
 abbrev pub macro_rules : List Rule
 macro_rules = define ∷ defines ∷ compiler ∷ missing_empty ∷ lines ∷ []
+
+-- what is written to files beside the answer
+abbrev pub output_rules : List Rule
+output_rules = deps ∷ status ∷ []
 
 -- between which files, in builds that do not define some names
 abbrev pub end_rules : List Rule
@@ -202,7 +215,7 @@ abbrev pub check : App
 check = command (codes "check") (extended ∷ gnu ∷ file_rules ++ drop_rules ++ note_rules ++ limit_rules ++ certificate ∷ end_rules)
 
 abbrev pub pp : App
-pp = command (codes "pp") (extended ∷ gnu ∷ file_rules ++ macro_rules ++ sources ∷ [])
+pp = command (codes "pp") (extended ∷ gnu ∷ file_rules ++ macro_rules ++ output_rules ++ sources ∷ [])
 
 -- the program before its commands; it prints its version
 abbrev pub program : App

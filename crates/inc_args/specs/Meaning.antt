@@ -59,6 +59,10 @@ pub record Preprocessing : Type 0 where
   pub is_missing_empty : Bool
   -- whether markers say which lines the tokens are from
   pub has_markers : Bool
+  -- the file that make rules of what is read are written to
+  pub deps : Option Text
+  -- the file that is written with how each source ended
+  pub status : Option Text
 
 -- a command with what it is asked
 pub data Asked : Type 0 where
@@ -84,6 +88,8 @@ pub record Meaning : Type 0 where
   pub languages : Languages
   -- without notes beside the answer
   pub is_quiet : Bool
+  -- links on the way to a file of the list are followed
+  pub follows : Bool
 
 ---- what is found under a name
 
@@ -156,6 +162,8 @@ preprocessing_in rows = record {
   words = values_of (codes "define") rows;
   is_missing_empty = is_given (codes "missing-empty") rows;
   has_markers = is_given (codes "lines") rows;
+  deps = first_of (codes "deps") rows;
+  status = first_of (codes "status") rows;
 }
 
 -- the command of this name
@@ -178,9 +186,14 @@ languages_in outer inner =
 
 -- without a command, the directives of standard input are listed
 abbrev pub meaning_of : List Row → Option (Text × List Row) → Meaning
-meaning_of rows None = record { asked = Scan None; languages = languages_in rows []; is_quiet = false }
+meaning_of rows None = record { asked = Scan None; languages = languages_in rows []; is_quiet = false; follows = false }
 meaning_of rows (Some sub) =
-    record { asked = asked_by sub.0 sub.1; languages = languages_in rows sub.1; is_quiet = is_given (codes "quiet") sub.1 }
+    record {
+      asked = asked_by sub.0 sub.1;
+      languages = languages_in rows sub.1;
+      is_quiet = is_given (codes "quiet") sub.1;
+      follows = is_given (codes "follow") sub.1;
+    }
 
 -- what the words ask for, of which the first is the program's name
 abbrev pub meaning : List Text → Meaning

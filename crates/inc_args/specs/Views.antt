@@ -51,6 +51,8 @@ seen_pp p = record {
   words = map (λ w. w.now) p.words.items;
   is_missing_empty = p.is_missing_empty;
   has_markers = p.has_markers;
+  deps = option_map (λ d. d.now) p.deps;
+  status = option_map (λ s. s.now) p.status;
 }
 
 abbrev pub seen_forms : FormArgs → Forms
@@ -69,4 +71,4 @@ seen_request (request.Check q l certificate) = Check (seen_question q) (seen_lim
 seen_request (request.Pp p) = Pp (seen_pp p)
 
 abbrev pub seen_arguments : Arguments → Meaning
-seen_arguments a = record { asked = seen_request a.request; languages = seen_languages a.languages; is_quiet = a.is_quiet }
+seen_arguments a = record { asked = seen_request a.request; languages = seen_languages a.languages; is_quiet = a.is_quiet; follows = a.follows }

@@ -2,7 +2,7 @@
 ghost use Rattle.std.specs.Prelude.{◌≡◌, ◌∷◌, [], IfOk};
 ghost use Rattle.clap.specs.Words.{app_of};
 ghost use Rattle.inc_args.specs.CommandLine as line;
-ghost use Rattle.inc_args.specs.CommandLine.{end_rules, file_rules, form_rules, graph_rules, incut, limit_rules, list_rules, macro_rules, note_rules, search_rules, who_rules, with_rules, drop_rules};
+ghost use Rattle.inc_args.specs.CommandLine.{end_rules, file_rules, form_rules, graph_rules, incut, limit_rules, list_rules, macro_rules, note_rules, output_rules, search_rules, who_rules, with_rules, drop_rules};
 
 use crate::help::{
     ABOUT, CHECK_NOTES, CUT_NOTES, EXAMPLES, EXTENDED_HELP, GNU_HELP, GRAPH_NOTES, HEADER_HELP,
@@ -44,10 +44,12 @@ fn with_list<'a>(alloc: Global, command: Command<'a>) -> Result<Command<'a>, All
     ensures { IfOk result (λ c. app_of c ≡ with_rules (app_of command.entry) list_rules) }
 {
     let root = "Take the C files below DIR, without --files (repeatable) [default: .]";
+    let follow = "Follow links on the way to a file of LIST";
     command
         .arg(files(alloc))?
         .arg(null(alloc))?
-        .arg(repeated_option(alloc, "root", "DIR", root))
+        .arg(repeated_option(alloc, "root", "DIR", root))?
+        .arg(flag(alloc, "follow", follow))
 }
 
 /// Adds the options that tell in which directories headers are searched, and what to take as removed.
@@ -121,6 +123,17 @@ fn with_macros<'a>(alloc: Global, command: Command<'a>) -> Result<Command<'a>, A
         .arg(option(alloc, "compiler", "FILE", compiler))?
         .arg(flag(alloc, "missing-empty", missing))?
         .arg(flag(alloc, "lines", lines))
+}
+
+/// Adds the options that tell what is written to files beside the answer.
+fn with_outputs<'a>(alloc: Global, command: Command<'a>) -> Result<Command<'a>, AllocError>
+    ensures { IfOk result (λ c. app_of c ≡ with_rules (app_of command.entry) output_rules) }
+{
+    let deps = "Write a make rule for each source to FILE: which files were read for it";
+    let status = "Write to FILE how many bytes are printed of each source, and how it ended";
+    command
+        .arg(option(alloc, "deps", "FILE", deps))?
+        .arg(option(alloc, "status", "FILE", status))
 }
 
 /// Adds what names the sources and the headers, a word for one of each or options, and what no build defines.
@@ -241,7 +254,7 @@ fn pp<'a>(alloc: Global) -> Result<Command<'a>, AllocError>
 {
     let command = started(alloc, "pp", "Preprocess sources", PP_NOTES)?;
     let command = with_macros(alloc, with_files(alloc, command)?)?;
-    command.arg(sources(alloc))
+    with_outputs(alloc, command)?.arg(sources(alloc))
 }
 
 /// The program without its commands.

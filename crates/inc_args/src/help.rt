@@ -76,6 +76,8 @@ To search other files, list them, one path a line, and give --files. One of thes
   git -c core.quotePath=false ls-files --deduplicate '*.c' '*.h' > files.txt
   find . -type f -name '*.[ch]' | sort > files.txt
 
+A file to which a link leads is not read, unless --follow is given, and a device or pipe never.
+
 The answer has four parts. Each directive is printed as its line and its file.
 
   shortest  a shortest chain of includes from SOURCE to HEADER
@@ -278,6 +280,19 @@ one after it. So a compiler goes on with the output, and its messages name the l
 
   incut pp --gnu --lines -I include --defines defines.txt src/main.c |
     gcc -fpreprocessed -x cpp-output -c -o main.o -
+
+With --deps a rule for make is written to FILE for each source that is read to its end: its object file, and
+the files that were read for it, as gcc -MD writes it:
+
+  incut pp -I include --deps main.d src/main.c > main.i
+
+With --status it is written to FILE how many bytes are printed of each source, and how it ended, since a line
+that looks like that of a stop may be one of tokens:
+
+  incut pp -I include --status status.txt src/*.c > all.txt
+
+  1302 src/main.c
+  answered
 
 --defines names a file with lines `#define NAME BODY` or `#define NAME(PARAMETERS) BODY`. They come
 before the words of -D. --compiler names one that may have lines `dir PATH`, too, for directories that

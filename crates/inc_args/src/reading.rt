@@ -39,11 +39,13 @@ fn read_matches<'a>(alloc: Global, matches: &ArgMatches<'a>) -> Result<Arguments
             request: read_request(alloc, name, inner)?,
             languages: read_languages(matches, Some(inner)),
             is_quiet: is_given(inner, "quiet"),
+            follows: is_given(inner, "follow"),
         }),
         None => Ok(Arguments {
             request: Request::Scan(None),
             languages: read_languages(matches, None),
             is_quiet: false,
+            follows: false,
         }),
     }
 }
@@ -114,6 +116,8 @@ fn read_pp<'a>(alloc: Global, matches: &ArgMatches<'a>) -> Result<PpArgs<'a>, Al
         words: values(alloc, matches, "define")?,
         is_missing_empty: is_given(matches, "missing-empty"),
         has_markers: is_given(matches, "lines"),
+        deps: given(matches, "deps"),
+        status: given(matches, "status"),
     })
 }
 

@@ -9,6 +9,8 @@ pub struct Arguments<'a> {
     pub languages: LanguageArgs,
     /// Whether no notes stand beside the answer.
     pub is_quiet: bool,
+    /// Whether links on the way to a file of the list are followed.
+    pub follows: bool,
 }
 
 /// The language that the files are in: C17, where none is given. They exclude each other.
@@ -118,4 +120,8 @@ pub struct PpArgs<'a> {
     pub is_missing_empty: bool,
     /// Whether markers say which lines the tokens are from.
     pub has_markers: bool,
+    /// The file that make rules of what is read are written to, where there is one.
+    pub deps: Option<&'a str>,
+    /// The file that is written with how each source ended, where there is one.
+    pub status: Option<&'a str>,
 }

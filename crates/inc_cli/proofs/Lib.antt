@@ -1,3 +1,4 @@
+pub mod BesideLemmas
 pub mod Fronts
 pub mod Listed
 pub mod ListedPrints

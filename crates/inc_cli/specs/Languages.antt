@@ -1,7 +1,7 @@
 -- The language of the files, of which flags of the command line may ask for one.
 use Rattle.std.specs.Prelude.{Result, Ok, Err, if◌then◌else◌}
-use Rattle.inc_token.specs.declared.kinds.Language.{Language}
-use Rattle.inc_token.specs.declared.kinds.Language.TheVariants.{C17, Extended, Gnu}
+use Rattle.inc_text.specs.declared.languages.Language.{Language}
+use Rattle.inc_text.specs.declared.languages.Language.TheVariants.{C17, Extended, Gnu}
 use Rattle.inc_args.specs.Meaning.{Languages}
 use Rattle.inc_inputs.specs.Reports.{Report, two_languages}
 

@@ -1,7 +1,7 @@
 -- What a run comes to that preprocesses sources.
-use Rattle.std.specs.Prelude.{◌≡◌, ◌++◌, ℕ, Bool, true, false, List, [], ◌∷◌, Result, Ok, IfErr, IfSome}
+use Rattle.std.specs.Prelude.{◌≡◌, ◌++◌, ◌||◌, ℕ, Bool, true, false, List, [], ◌∷◌, Result, Ok, IfErr, IfSome, is_some}
 use Rattle.std.specs.Io.KnownBytes.{Appends}
-use Rattle.inc_token.specs.declared.kinds.Language.{Language}
+use Rattle.inc_text.specs.declared.languages.Language.{Language}
 use Rattle.inc_text.specs.declared.devices.ReadFault.{ReadFault}
 use Rattle.inc_lookup.specs.Given.{FailsAfter, HoldsOfGiven}
 use Rattle.inc_lookup.specs.IncludePath.{NamedDir}
@@ -9,7 +9,7 @@ use Rattle.inc_lookup.specs.Projects.{Layout}
 use Rattle.inc_pp.specs.Settings.{found_in_settings, marked_settings, usual_settings}
 use Rattle.inc_pp.specs.declared.settings.Missing.{Missing}
 use Rattle.inc_pp.specs.declared.settings.Missing.TheVariants.{Empty, Stop}
-use Rattle.inc_report.specs.PpTexts.{IsNextPp, IsPpBy, are_several}
+use Rattle.inc_report.specs.PpTexts.{IsNextPp, IsPpBy, wanted_of}
 use Rattle.inc_report.specs.Printed.{Printed}
 use Rattle.inc_report.specs.Terms.{PpQuestion, named_directives}
 use Rattle.inc_report.specs.Writing.{WritesEach, is_of_certificate, unread_of}
@@ -18,13 +18,14 @@ use Rattle.inc_report.specs.declared.outcome.RunFault.{RunFault}
 use Rattle.inc_args.specs.Meaning.{Preprocessing}
 use Rattle.inc_inputs.specs.Defines.{described_dirs}
 use Rattle.inc_inputs.specs.IncludePath.{dir_names, include_path}
-use Rattle.inc_inputs.specs.Inputs.{Gives, listed}
-use Rattle.inc_cli.specs.Outputs.{Following, Output, ended}
+use Rattle.inc_inputs.specs.Inputs.{Gives, Puts, listed}
+use Rattle.inc_inputs.specs.declared.failures.Hindrance.{Hindrance}
+use Rattle.inc_cli.specs.Outputs.{Answer, Following, Output, ended}
 use Rattle.inc_inputs.specs.PpTexts.{PpTexts, pp_texts}
-use Rattle.inc_inputs.specs.Reports.{input_twice}
-use Rattle.inc_inputs.specs.Steps.{Step, comes_to, then}
+use Rattle.inc_inputs.specs.Reports.{Report, input_twice, no_file, one_file}
+use Rattle.inc_inputs.specs.Steps.{Step, comes_to, next_of, then, writes_if}
 use Rattle.inc_inputs.specs.ProjectLists.{paths_in}
-use Rattle.inc_inputs.specs.Texts.{are_twice, listed_layout, unless}
+use Rattle.inc_inputs.specs.Texts.{are_one, are_twice, listed_layout, names_input, unless}
 
 -- with --missing-empty
 abbrev pub missing_of : (is_empty : Bool) → Missing
@@ -54,12 +55,22 @@ pp_asked language p texts =
         words = texts.compiler.words ++ texts.defines ++ p.words;
         settings = found_in_settings (searched p texts) (marked_settings p.has_markers (usual_settings language (missing_of p.is_missing_empty)));
         without = texts.without;
+        has_rules = is_some p.deps;
+        has_endings = is_some p.status;
       };
     })))
 
-abbrev pub pp_of : {S : Type 0} → Gives S → Language → Preprocessing → Step S PpAsked
-pp_of gives language p =
+abbrev pub pp_named : {S : Type 0} → Gives S → Language → Preprocessing → Step S PpAsked
+pp_named gives language p =
     unless (are_twice (p.files.list ∷ p.without ∷ p.compiler ∷ p.defines ∷ [])) input_twice (then (pp_texts gives language p) (λ texts. pp_asked language p texts))
+
+-- no two texts go to one file
+abbrev pub pp_apart : {S : Type 0} → Gives S → Language → Preprocessing → Step S PpAsked
+pp_apart gives language p = unless (are_one p.deps p.status) one_file (pp_named gives language p)
+
+-- what is written beside the answer goes to files
+abbrev pub pp_of : {S : Type 0} → Gives S → Language → Preprocessing → Step S PpAsked
+pp_of gives language p = unless (names_input p.deps || names_input p.status) no_file (pp_apart gives language p)
 
 ---- what is printed
 
@@ -68,7 +79,7 @@ abbrev pub IsPpOf : {S : Type 0} → Gives S → PpAsked → (old new : S) → (
 IsPpOf gives a old new done p =
     let q : PpQuestion = a.question in
     HoldsOfGiven (listed gives a.paths) old new a.layout
-    (IsPpBy (are_several q.sources) done q.words q.settings (named_directives a.layout q.without) p)
+    (IsPpBy (wanted_of q) done q.words q.settings (named_directives a.layout q.without) p)
 
 -- a file was not read that is the next for a source, after what is printed of those before it
 abbrev pub FailsFor : {S : Type 0} → Gives S → PpAsked → (old new : S) → Output → ℕ × ReadFault → Type 0
@@ -76,16 +87,27 @@ FailsFor gives a old new out r =
     let q : PpQuestion = a.question in
     (done more : List (List ℕ)) × (source : List ℕ) × (p : Printed) × (q.sources ≡ done ++ source ∷ more) × Appends out.before out.after p.text
     × FailsAfter (listed gives a.paths) old new a.layout r.0 r.1
-    (IsNextPp (are_several q.sources) done source q.words q.settings (named_directives a.layout q.without) p r.0)
+    (IsNextPp (wanted_of q) done source q.words q.settings (named_directives a.layout q.without) p r.0)
 
 -- the sources were preprocessed one after the other, or a file could not be read
-pub record PrintsEach {S : Type 0} (gives : Gives S) (a : PpAsked) (old : S) (out : Output) (result : Result End RunFault) : Type 0 where
-  pub new : S
+pub record PrintsEach {S : Type 0} (gives : Gives S) (a : PpAsked) (old new : S) (out : Output) (result : Result End RunFault) : Type 0 where
   pub writes : WritesEach (IsPpOf gives a old) a.question.sources new out.before out.after out.failed result
   pub unread : IfErr result (λ fault. IfSome (unread_of fault) (FailsFor gives a old new out))
   -- there is no certificate
   pub certificate : IfErr result (λ fault. is_of_certificate fault ≡ false)
 
--- they were preprocessed so
-abbrev pub IsPreprocessed : {S : Type 0} → Gives S → Following S PpAsked
-IsPreprocessed gives a old out answer = (result : Result End RunFault) × (answer ≡ ended [] a.paths [] result) × PrintsEach gives a old out result
+---- what is written beside it
+
+-- the texts that stand beside an answer are written, each to the file that a word names
+abbrev pub writes_texts : {S : Type 0} → Puts S → Preprocessing → Answer → Step S (Unit {0})
+writes_texts puts p answer = then (writes_if puts p.deps answer.end.rules) (λ written. writes_if puts p.status answer.end.endings)
+
+-- they are after an answer, and after a failure none
+abbrev pub writes_beside : {S : Type 0} → Puts S → Preprocessing → Result Answer Report → Step S Answer
+writes_beside puts p told = next_of (λ answer. then (writes_texts puts p answer) (λ written. comes_to (Ok answer))) told
+
+-- sources were preprocessed, and what stands beside the answer was written
+abbrev pub IsPreprocessed : {S : Type 0} → Gives S → Puts S → Preprocessing → Following S PpAsked
+IsPreprocessed {S} gives puts p a old out answer =
+    (result : Result End RunFault) × (hindrance : Hindrance) × (mid new : S) × PrintsEach gives a old mid out result
+    × writes_beside puts p (ended [] a.paths [] hindrance result) mid answer new

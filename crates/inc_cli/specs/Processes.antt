@@ -3,13 +3,13 @@ use Rattle.std.specs.Prelude.{◌≡◌, ◌≢◌, ℕ, Bool, List, [], Result,
 use Rattle.std.specs.Io.KnownBytes.{Appends, Keeps}
 use Rattle.clap.specs.Words.{IsAmong, kind_of}
 use Rattle.inc_text.specs.Devices.{AppendsFront}
-use Rattle.inc_token.specs.declared.kinds.Language.{Language}
+use Rattle.inc_text.specs.declared.languages.Language.{Language}
 use Rattle.inc_args.specs.Meaning as args
 use Rattle.inc_args.specs.Meaning.{Meaning, meaning}
 use Rattle.inc_args.specs.Refusals.{refusals}
-use Rattle.inc_inputs.specs.Inputs.{Gives}
+use Rattle.inc_inputs.specs.Inputs.{Begins, Gives, Puts}
 use Rattle.inc_cli.specs.Languages.{language_of}
-use Rattle.inc_cli.specs.Notes.{notes_of}
+use Rattle.inc_cli.specs.Notes.{notes_if}
 use Rattle.inc_cli.specs.Outputs.{Answer, Follows, IsRun, Output}
 use Rattle.inc_cli.specs.Preprocessings.{IsPreprocessed, pp_of}
 use Rattle.inc_cli.specs.Questions.{Blank, Check, Command, Cut, Graph, IsAnswered, IsPrinted, IsPromised, Opens, Patch, Who, Why, certificate_of, has_headers}
@@ -38,14 +38,14 @@ abbrev pub who_of : args.Question → (with_chains : Bool) → Result Command Re
 who_of q with_chains = if are_ends q then Ok (Who with_chains) else Err no_headers
 
 -- what words ask for is answered
-abbrev pub IsAnswerTo : {S T : Type 0} → Gives S → Opens S T → Language → args.Asked → (old : S) → Output → Result Answer Report → Type 0
-IsAnswerTo gives o language (args.Scan path) old out answer = IsScan gives language path old out answer
-IsAnswerTo gives o language (args.Why q) old out answer = IsAsked gives o language Why q no_limits old out answer
-IsAnswerTo gives o language (args.Who q with_chains) old out answer = Follows (λ command. IsAsked gives o language command q no_limits) (who_of q with_chains) old out answer
-IsAnswerTo gives o language (args.Graph q) old out answer = IsAsked gives o language Graph q no_limits old out answer
-IsAnswerTo gives o language (args.Cut q l f) old out answer = Follows (λ command. IsAsked gives o language command q l) (form_of f) old out answer
-IsAnswerTo gives o language (args.Check q l name) old out answer = IsAsked gives o language (Check name) q l old out answer
-IsAnswerTo gives o language (args.Pp p) old out answer = IsRun (pp_of gives language p) (IsPreprocessed gives) old out answer
+abbrev pub IsAnswerTo : {S T : Type 0} → Gives S → Puts S → Opens S T → Language → args.Asked → (old : S) → Output → Result Answer Report → Type 0
+IsAnswerTo gives puts o language (args.Scan path) old out answer = IsScan gives language path old out answer
+IsAnswerTo gives puts o language (args.Why q) old out answer = IsAsked gives o language Why q no_limits old out answer
+IsAnswerTo gives puts o language (args.Who q with_chains) old out answer = Follows (λ command. IsAsked gives o language command q no_limits) (who_of q with_chains) old out answer
+IsAnswerTo gives puts o language (args.Graph q) old out answer = IsAsked gives o language Graph q no_limits old out answer
+IsAnswerTo gives puts o language (args.Cut q l f) old out answer = Follows (λ command. IsAsked gives o language command q l) (form_of f) old out answer
+IsAnswerTo gives puts o language (args.Check q l name) old out answer = IsAsked gives o language (Check name) q l old out answer
+IsAnswerTo gives puts o language (args.Pp p) old out answer = IsRun (pp_of gives language p) (IsPreprocessed gives puts p) old out answer
 
 -- what is promised of a question that is asked with a command
 abbrev pub IsKept : {S T : Type 0} → Gives S → Opens S T → Language → Command → args.Question → args.Limits → (old : S) → Output
@@ -66,9 +66,9 @@ abbrev pub status_after : Result Answer Report → ℕ
 status_after (Ok a) = status_of a.end.kind
 status_after (Err r) = r.status
 
--- the notes beside an answer, where they are asked for, or the line that reports a failure
+-- the notes beside an answer, or the line that reports a failure
 abbrev pub told : (quiet : Bool) → Result Answer Report → List ℕ
-told quiet (Ok a) = if quiet then [] else notes_of a
+told quiet (Ok a) = notes_if quiet a
 told quiet (Err r) = report_line r
 
 -- the status, and what is written to the messages, as far as they take it
@@ -88,9 +88,18 @@ abbrev pub IsToldRun : (quiet : Bool) → (P : Result Answer Report → Type 0) 
 IsToldRun quiet P messages (Usage error) = Unit {0}
 IsToldRun quiet P messages (Status n) = n ≢ 5 → (answer : Result Answer Report) × IsTold quiet answer n messages × P answer
 
--- what the words ask for is answered
-abbrev pub IsAnswer : {S T : Type 0} → Gives S → Opens S T → Meaning → (old : S) → Output → Result Answer Report → Type 0
-IsAnswer gives o m old out answer = Follows (λ language. IsAnswerTo gives o language m.asked) (language_of m.languages) old out answer
+-- what the words ask for is answered, once it is set whether links are followed
+abbrev pub IsAnswerFrom : {S T : Type 0} → Gives S → Puts S → Opens S T → Meaning → (old : S) → Output → Result Answer Report → Type 0
+IsAnswerFrom gives puts o m old out answer = Follows (λ language. IsAnswerTo gives puts o language m.asked) (language_of m.languages) old out answer
 
-abbrev pub IsPromise : {S T : Type 0} → Gives S → Opens S T → Meaning → (old : S) → Output → Result Answer Report → Type 0
-IsPromise gives o m old out answer = Follows (λ language. IsPromiseOf gives o language m.asked) (language_of m.languages) old out answer
+abbrev pub IsPromiseFrom : {S T : Type 0} → Gives S → Opens S T → Meaning → (old : S) → Output → Result Answer Report → Type 0
+IsPromiseFrom gives o m old out answer = Follows (λ language. IsPromiseOf gives o language m.asked) (language_of m.languages) old out answer
+
+-- that is set first
+abbrev pub IsAnswer : {S T : Type 0} → Begins S → Gives S → Puts S → Opens S T → Meaning → (old : S) → Output → Result Answer Report → Type 0
+IsAnswer {S} begins gives puts o m old out answer =
+    (first : S) × begins old m.follows first × IsAnswerFrom gives puts o m first out answer
+
+abbrev pub IsPromise : {S T : Type 0} → Begins S → Gives S → Opens S T → Meaning → (old : S) → Output → Result Answer Report → Type 0
+IsPromise {S} begins gives o m old out answer =
+    (first : S) × begins old m.follows first × IsPromiseFrom gives o m first out answer

@@ -20,6 +20,7 @@ use Rattle.inc_report.specs.declared.outcome.RunFault.{RunFault}
 use Rattle.inc_args.specs.Meaning.{Question}
 use Rattle.inc_inputs.specs.HeaderNames.{header_notes}
 use Rattle.inc_inputs.specs.Inputs.{Gives, listed}
+use Rattle.inc_inputs.specs.declared.failures.Hindrance.{Hindrance}
 use Rattle.inc_cli.specs.Outputs.{Answer, Output, ended}
 use Rattle.inc_inputs.specs.Reports.{Report}
 use Rattle.inc_cli.specs.Runs.{Asked}
@@ -95,8 +96,10 @@ pub record Prints {S : Type 0} (P : (new : S) → Printed → Type 0) (Unread : 
 pub record IsAnswered {S : Type 0} (gives : Gives S) (P : Asked → (old new : S) → Printed → Type 0) (command : Command) (q : Question) (a : Asked) (old : S) (out : Output)
     (answer : Result Answer Report) : Type 0 where
   pub result : Result End RunFault
+  -- what stood in the way of a file, as the inputs told it
+  pub hindrance : Hindrance
   -- with what is noted of the words for headers
-  pub is : answer ≡ ended (header_notes a.layout q) a.paths (unwrap_or (certificate_of command) []) result
+  pub is : answer ≡ ended (header_notes a.layout q) a.paths (unwrap_or (certificate_of command) []) hindrance result
   -- no certificate fails where none is named
   pub certificate : certificate_of command ≡ None → IfErr result (λ fault. is_of_certificate fault ≡ false)
   pub prints : Prints (P a old) (λ new. FailsAt (listed gives a.paths) old new a.layout a.question) out result

@@ -1,6 +1,6 @@
 -- What is asked about sources and headers, by the words and by the texts that they name.
 use Rattle.std.specs.Prelude.{ℕ, Bool, true, false, ◌&&◌, not, List, [], ◌∷◌, Option, Some, None, Ok, unwrap_or}
-use Rattle.inc_token.specs.declared.kinds.Language.{Language}
+use Rattle.inc_text.specs.declared.languages.Language.{Language}
 use Rattle.inc_lookup.specs.Projects.{Layout}
 use Rattle.inc_report.specs.Terms as report
 use Rattle.inc_args.specs.Meaning.{Limits, Question}

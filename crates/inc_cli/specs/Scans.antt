@@ -3,7 +3,7 @@ use Rattle.std.specs.Prelude.{◌≡◌, ℕ, true, List, [], Option, Some, None
 use Rattle.std.specs.Io.KnownBytes.{Keeps}
 use Rattle.inc_text.specs.declared.devices.ReadFault.{ReadFault}
 use Rattle.inc_text.specs.declared.devices.ReadFault.TheVariants.{TooLong}
-use Rattle.inc_token.specs.declared.kinds.Language.{Language}
+use Rattle.inc_text.specs.declared.languages.Language.{Language}
 use Rattle.inc_report.specs.Printed.{Printed}
 use Rattle.inc_report.specs.Refusals as refusals
 use Rattle.inc_report.specs.Refusals.{refusal}
@@ -12,6 +12,7 @@ use Rattle.inc_report.specs.Writing.{Writes, is_own}
 use Rattle.inc_report.specs.declared.outcome.End.{End}
 use Rattle.inc_report.specs.declared.outcome.RunFault.{RunFault}
 use Rattle.inc_inputs.specs.Inputs.{FileAt, Gives, Input, StandardInput}
+use Rattle.inc_inputs.specs.declared.failures.Hindrance.TheVariants.{Other}
 use Rattle.inc_cli.specs.Outputs.{Answer, Output, ended}
 use Rattle.inc_inputs.specs.Reports.{Report, read_report}
 
@@ -24,10 +25,14 @@ scanned (Some path) = FileAt path
 abbrev pub scanned_name : Option (List ℕ) → List ℕ
 scanned_name path = unwrap_or path (codes "-")
 
+-- what the file is called beside a refusal
+abbrev pub scanned_title : Option (List ℕ) → List ℕ
+scanned_title path = unwrap_or path (codes "<stdin>")
+
 -- this was printed
 abbrev pub IsOut : Printed → Output → Result Answer Report → Type 0
 IsOut p out answer =
-    (result : Result End RunFault) × (answer ≡ ended [] [] [] result) × Writes (λ q. q ≡ p) out.before out.after out.failed result
+    (result : Result End RunFault) × (answer ≡ ended [] [] [] Other result) × Writes (λ q. q ≡ p) out.before out.after out.failed result
     × IfErr result (λ fault. is_own fault ≡ true)
 
 -- what is printed where it was not read. Standard input that is too long is refused as a source is
@@ -37,7 +42,7 @@ IsUnread path fault out answer = (answer ≡ Err (read_report fault (scanned_nam
 
 -- what is printed of the answer of a reading
 abbrev pub IsScanOf : Language → Option (List ℕ) → Result (List ℕ) ReadFault → Output → Result Answer Report → Type 0
-IsScanOf language path (Ok bytes) out answer = IsOut (scan language (scanned_name path) bytes) out answer
+IsScanOf language path (Ok bytes) out answer = IsOut (scan language (scanned_name path) (scanned_title path) bytes) out answer
 IsScanOf language path (Err fault) out answer = IsUnread path fault out answer
 
 -- the file is read, and its directives are listed

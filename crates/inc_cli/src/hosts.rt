@@ -1,13 +1,14 @@
 //! The host's files and its standard input.
 ghost use Rattle.std.specs.Prelude.{◌≡◌, false};
-ghost use Rattle.std.specs.Io.{ReadsAtMost};
+ghost use Rattle.std.specs.Io.{ReadsAtMost, WritesAtMost};
 
 use crate::folders::list_files;
+use crate::listed_files::{ListedFiles, Unopened};
 use crate::reports::{report, usage_status};
 use crate::runs::{Ended, run};
 use clap::Error as UsageError;
-use inc_inputs::{Failure, Inputs};
-use inc_text::{ByteSink, ByteSource, DeviceFault, ReadFault, Reading, read_file};
+use inc_inputs::{Failure, Hindrance, Inputs};
+use inc_text::{ByteSink, ByteSource, DeviceFault, ReadFault, read_file};
 use std::alloc::{AllocError, Global};
 use std::cell::Cell;
 use std::fs::File;
@@ -16,15 +17,21 @@ use std::random::RandomSource;
 use std::{env, fs, io, str};
 
 /// What the host has: std says of none of its bytes what they are.
-#[derive(Clone, Copy, Drop)]
+#[derive(Drop)]
 pub struct HostInputs<'a> {
     rt: &'a HostRuntime,
+    listed: ListedFiles,
+    hindrance: &'a Cell<Hindrance>,
 }
 
 impl<'a> HostInputs<'a> {
-    /// The files and the standard input of the process.
-    pub fn new(rt: &'a HostRuntime) -> HostInputs<'a> {
-        HostInputs { rt }
+    /// The files and the standard input of the process. `hindrance` holds what stood in the way of the file of a list that was read last.
+    pub fn new(rt: &'a HostRuntime, seed: u64, hindrance: &'a Cell<Hindrance>) -> HostInputs<'a> {
+        HostInputs {
+            rt,
+            listed: ListedFiles::new(rt, seed),
+            hindrance,
+        }
     }
 }
 
@@ -33,7 +40,31 @@ impl<'a> Inputs for HostInputs<'a> {
 
     ghost opens = { λ inputs name stream. Unit {0} };
 
+    ghost begins = { λ old follows new. Unit {0} };
+
+    ghost puts = { λ old name text whole new. Unit {0} };
+
     type Stream = HostStream<'a>;
+
+    fn begin(&mut self, follows: bool) {
+        self.listed.follow(follows);
+    }
+
+    fn read_listed(&mut self, alloc: Global, path: &[u8]) -> Result<Vec<u8>, ReadFault> {
+        self.hindrance.set(Hindrance::Other);
+        // A path that is not UTF-8 cannot be opened.
+        let Ok(name) = str::from_utf8(path) else {
+            return Err(ReadFault::Read);
+        };
+        match self.listed.open(self.rt, name) {
+            Ok((file, expected)) => read_file(alloc, &mut HostReader::new(file), expected),
+            Err(Unopened::NoMemory) => Err(ReadFault::NoMemory),
+            Err(Unopened::Hindered(hindrance)) => {
+                self.hindrance.set(hindrance);
+                Err(ReadFault::Read)
+            }
+        }
+    }
 
     fn read_file(&mut self, alloc: Global, path: &[u8]) -> Result<Vec<u8>, ReadFault> {
         // A path that is not UTF-8 cannot be opened.
@@ -44,14 +75,15 @@ impl<'a> Inputs for HostInputs<'a> {
             return Err(ReadFault::Read);
         };
         let expected = expected_len(&file);
-        read_file(alloc, &mut Reading::new(file), expected)
+        read_file(alloc, &mut HostReader::new(file), expected)
     }
 
     fn read_input(&mut self, alloc: Global) -> Result<Vec<u8>, ReadFault> {
-        read_file(alloc, &mut Reading::new(self.rt.reader()), 0)
+        read_file(alloc, &mut HostReader::new(self.rt.reader()), 0)
     }
 
     fn list_files(&mut self, _alloc: Global, folder: &str) -> Result<Vec<u8>, ReadFault> {
+        self.listed.trust(self.rt, folder)?;
         list_files(self.rt, folder)
     }
 
@@ -63,6 +95,13 @@ impl<'a> Inputs for HostInputs<'a> {
             failed: false,
         })
     }
+
+    fn write_file(&mut self, name: &str, text: &[u8]) -> Result<(), DeviceFault> {
+        match fs::write(self.rt, name, text) {
+            Ok(()) => Ok(()),
+            Err(_) => Err(DeviceFault),
+        }
+    }
 }
 
 /// How many bytes a file has by what the host says. A host that cannot say it has the file read as it comes.
@@ -70,6 +109,79 @@ fn expected_len(file: &File) -> usize {
     match file.metadata() {
         Ok(known) => known.len() as usize,
         Err(_) => 0,
+    }
+}
+
+/// Reads the next bytes; where a signal comes before the first of them, anew.
+fn read_again<R: Read>(reader: &mut R, into: &mut [u8]) -> Result<usize, Error>
+    ensures { ReadsAtMost result into.new }
+{
+    for _ in 0..u64::MAX {
+        match reader.read(into) {
+            Err(error) if error.kind() == ErrorKind::Interrupted => {}
+            read => return read,
+        }
+    }
+    Err(too_many_signals())
+}
+
+/// Writes the first bytes of a piece; where a signal comes before the first of them, anew.
+fn write_again<W: Write>(writer: &mut W, piece: &[u8]) -> Result<usize, Error>
+    ensures { WritesAtMost result piece.now }
+{
+    for _ in 0..u64::MAX {
+        match writer.write(piece) {
+            Err(error) if error.kind() == ErrorKind::Interrupted => {}
+            written => return written,
+        }
+    }
+    Err(too_many_signals())
+}
+
+/// What no process lives to see.
+fn too_many_signals() -> Error {
+    Error::new(ErrorKind::Interrupted, "too many signals")
+}
+
+/// A file or standard input, from where it is.
+#[derive(Drop)]
+struct HostReader<R> {
+    reader: R,
+    failed: bool,
+}
+
+impl<R: Read> HostReader<R> {
+    /// The bytes that a reader gives.
+    fn new(reader: R) -> Self
+        ensures { result.failed ≡ false }
+    {
+        HostReader {
+            reader,
+            failed: false,
+        }
+    }
+}
+
+impl<R: Read> ByteSource for HostReader<R> {
+    ghost use Rattle.std.specs.Prelude.{None};
+
+    // std says nothing of the bytes that a file or standard input gives
+    ghost left = { λ s. None };
+
+    ghost has_failed = { λ s. s.failed };
+
+    fn read(&mut self, into: &mut [u8]) -> Result<usize, DeviceFault> {
+        match read_again(&mut self.reader, into) {
+            Ok(count) => Ok(count),
+            Err(_) => {
+                self.failed = true;
+                Err(DeviceFault)
+            }
+        }
+    }
+
+    fn failed(&self) -> bool {
+        self.failed
     }
 }
 
@@ -90,13 +202,13 @@ impl HostStream<'_> {
         ensures same { self.new.failed ≡ self.old.failed }
     {
         if self.name.as_str() == "-" {
-            return self.rt.stdin().read(into);
+            return read_again(&mut self.rt.stdin(), into);
         }
         if self.file.is_none() {
             self.file = Some(fs::open(self.rt, self.name.as_str())?);
         }
         match &mut self.file {
-            Some(file) => file.read(into),
+            Some(file) => read_again(file, into),
             None => Ok(0),
         }
     }
@@ -125,24 +237,56 @@ impl ByteSource for HostStream<'_> {
     }
 }
 
-/// Standard output or standard error. Once one of them is a pipe that nobody reads any more, as standard output is after `| head`, what is
-/// written to either is dropped, so that the process ends without a message.
+/// Which of standard output and standard error are pipes that nobody reads any more.
+#[derive(Drop)]
+struct Pipes {
+    output: Cell<bool>,
+    messages: Cell<bool>,
+}
+
+impl Pipes {
+    /// Somebody reads both, as far as it is known.
+    fn new() -> Self {
+        Pipes {
+            output: Cell::new(false),
+            messages: Cell::new(false),
+        }
+    }
+}
+
+/// Standard output or standard error. What is written to one of them is dropped once it is a pipe that nobody reads any more. Once standard
+/// output is one, as after `| head`, messages are dropped, too, so that the process ends without one.
 #[derive(Drop)]
 struct HostSink<'a, W> {
     writer: W,
-    /// Whether nobody reads any more.
+    /// Whether nobody reads it any more.
     gone: &'a Cell<bool>,
+    /// Whether nobody reads standard output any more.
+    output_gone: &'a Cell<bool>,
     failed: bool,
 }
 
 impl<'a, W: Write> HostSink<'a, W> {
-    /// What is written goes to a writer.
-    fn new(writer: W, gone: &'a Cell<bool>) -> Self
+    /// Standard output.
+    fn output(writer: W, pipes: &'a Pipes) -> Self
         ensures { result.failed ≡ false }
     {
         HostSink {
             writer,
-            gone,
+            gone: &pipes.output,
+            output_gone: &pipes.output,
+            failed: false,
+        }
+    }
+
+    /// Standard error.
+    fn messages(writer: W, pipes: &'a Pipes) -> Self
+        ensures { result.failed ≡ false }
+    {
+        HostSink {
+            writer,
+            gone: &pipes.messages,
+            output_gone: &pipes.output,
             failed: false,
         }
     }
@@ -157,10 +301,10 @@ impl<W: Write> ByteSink for HostSink<'_, W> {
     ghost has_failed = { λ s. s.failed };
 
     fn write(&mut self, piece: &[u8]) -> Result<usize, DeviceFault> {
-        if self.gone.get() {
+        if self.gone.get() || self.output_gone.get() {
             return Ok(piece.len());
         }
-        match self.writer.write(piece) {
+        match write_again(&mut self.writer, piece) {
             Ok(count) if count > 0 || piece.is_empty() => return Ok(count),
             Err(error) if error.kind() == ErrorKind::BrokenPipe => self.gone.set(true),
             _ => {}
@@ -176,10 +320,10 @@ impl<W: Write> ByteSink for HostSink<'_, W> {
 
 /// Runs the program for the words of the process, and gives the exit status.
 pub fn run_process(rt: &HostRuntime) -> u8 {
-    let gone = Cell::new(false);
-    let messages = HostSink::new(rt.stderr(), &gone);
+    let pipes = Pipes::new();
+    let messages = HostSink::messages(rt.stderr(), &pipes);
     match words_of(rt) {
-        Ok(words) => run_words(rt, &words, &gone, messages),
+        Ok(words) => run_words(rt, &words, &pipes, messages),
         Err(failure) => report(&failure, messages).0,
     }
 }
@@ -188,14 +332,16 @@ pub fn run_process(rt: &HostRuntime) -> u8 {
 fn run_words<E: ByteSink + Drop>(
     rt: &HostRuntime,
     words: &[String],
-    gone: &Cell<bool>,
+    pipes: &Pipes,
     messages: E,
 ) -> u8
     requires { E.has_failed messages ≡ false }
 {
-    let out = HostSink::new(io::writer(rt), gone);
-    let inputs = HostInputs::new(rt);
-    let (ended, _out, messages) = run(rt.alloc(), new_seed(rt), words, inputs, out, messages);
+    let out = HostSink::output(io::writer(rt), pipes);
+    let seed = new_seed(rt);
+    let hindrance = Cell::new(Hindrance::Other);
+    let inputs = HostInputs::new(rt, seed, &hindrance);
+    let (ended, _out, messages) = run(rt.alloc(), seed, words, inputs, &hindrance, out, messages);
     match ended {
         Ended::Status(status) => status,
         Ended::Usage(error) => print_usage(rt, &error, messages),

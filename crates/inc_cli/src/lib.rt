@@ -5,6 +5,7 @@
 mod answers;
 mod folders;
 mod hosts;
+mod listed_files;
 mod notes;
 mod pp;
 mod questions;

@@ -1,17 +1,18 @@
 //! Notes, which stand beside an answer on standard error and change nothing of it.
-ghost use Rattle.std.specs.Prelude.{◌≡◌, ◌++◌, [], Ok, OnErr, OnOk, false, if◌then◌else◌, is_err};
+ghost use Rattle.std.specs.Prelude.{◌≡◌, ◌++◌, Ok, OnErr, OnOk, false, is_err};
 ghost use Rattle.std.specs.Io.KnownBytes.{Appends};
 ghost use Rattle.inc_text.specs.Devices.{AppendsFront};
-ghost use Rattle.inc_cli.specs.Notes.{notes_of};
+ghost use Rattle.inc_cli.specs.Notes.{notes_if, reason_of};
 ghost use Rattle.inc_cli.specs.Processes.{IsTold};
 ghost use Rattle.inc_cli.specs.Views.{answer_in, output_of};
 
 use crate::answers::Answer;
 use crate::reports::exit_of;
+use inc_report::{End, EndKind};
 use inc_text::{ByteSink, DeviceFault, write_whole};
 
-/// Writes the notes beside an answer unless they are turned off, and gives the exit status, which a note that cannot be written does not
-/// change.
+/// Writes the notes beside an answer, or where they are turned off reasons alone, and gives the exit status, which a note that
+/// cannot be written does not change.
 pub(crate) fn note<E: ByteSink>(answer: &Answer, is_quiet: bool, messages: E) -> (u8, E)
     requires { E.has_failed messages ≡ false }
     ensures { IsTold is_quiet (Ok (answer_in answer.now)) result.0
@@ -22,7 +23,7 @@ pub(crate) fn note<E: ByteSink>(answer: &Answer, is_quiet: bool, messages: E) ->
     (exit_of(&answer.end), messages)
 }
 
-/// Writes the notes beside an answer unless they are turned off.
+/// Writes the notes beside an answer, or where they are turned off reasons alone.
 fn write_notes<E: ByteSink>(
     messages: &mut E,
     answer: &Answer,
@@ -30,28 +31,53 @@ fn write_notes<E: ByteSink>(
 ) -> Result<(), DeviceFault>
     requires { E.has_failed messages.old ≡ false }
     ensures whole { OnOk result (Appends (E.written messages.old) (E.written messages.new)
-        (if is_quiet then [] else notes_of (answer_in answer.now))) }
+        (notes_if is_quiet (answer_in answer.now))) }
     ensures front { OnErr result (AppendsFront (E.written messages.old) (E.written messages.new)
-        (if is_quiet then [] else notes_of (answer_in answer.now))) }
+        (notes_if is_quiet (answer_in answer.now))) }
     ensures failed { E.has_failed messages.new ≡ is_err result }
 {
+    let stops = answer.end.stops.text();
     if is_quiet {
-        return Ok(());
+        return write_both(messages, reason_of(&answer.end), stops);
     }
-    write_each(messages, &answer.notes, answer.end.notes.text())
+    write_each(messages, &answer.notes, answer.end.notes.text(), stops)
 }
 
-/// Writes the notes of the words, and then those of the headers that were not found.
+/// The reason of a refusal, which stays where notes are turned off.
+fn reason_of(end: &End) -> &[u8]
+    ensures { result.now ≡ reason_of end.now }
+{
+    match end.kind {
+        EndKind::Refused => end.notes.text(),
+        _ => &[],
+    }
+}
+
+/// Writes the notes of the words, then those of the answer, and then why sources stopped.
 fn write_each<E: ByteSink>(
     messages: &mut E,
     words: &[u8],
     headers: &[u8],
+    stops: &[u8],
 ) -> Result<(), DeviceFault>
     requires { E.has_failed messages.old ≡ false }
-    ensures whole { OnOk result (Appends (E.written messages.old) (E.written messages.new) (words.now ++ headers.now)) }
-    ensures front { OnErr result (AppendsFront (E.written messages.old) (E.written messages.new) (words.now ++ headers.now)) }
+    ensures whole { OnOk result (Appends (E.written messages.old) (E.written messages.new)
+        (words.now ++ (headers.now ++ stops.now))) }
+    ensures front { OnErr result (AppendsFront (E.written messages.old) (E.written messages.new)
+        (words.now ++ (headers.now ++ stops.now))) }
     ensures failed { E.has_failed messages.new ≡ is_err result }
 {
     write_whole(messages, words)?;
-    write_whole(messages, headers)
+    write_both(messages, headers, stops)
+}
+
+/// Writes one text after the other.
+fn write_both<E: ByteSink>(messages: &mut E, first: &[u8], second: &[u8]) -> Result<(), DeviceFault>
+    requires { E.has_failed messages.old ≡ false }
+    ensures whole { OnOk result (Appends (E.written messages.old) (E.written messages.new) (first.now ++ second.now)) }
+    ensures front { OnErr result (AppendsFront (E.written messages.old) (E.written messages.new) (first.now ++ second.now)) }
+    ensures failed { E.has_failed messages.new ≡ is_err result }
+{
+    write_whole(messages, first)?;
+    write_whole(messages, second)
 }

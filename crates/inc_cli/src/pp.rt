@@ -1,19 +1,21 @@
 //! The preprocessing of sources of a project.
 ghost use Rattle.std.specs.Prelude.{◌≡◌, ◌≢◌, ◌++◌, Err, false, map, IfOk};
 ghost use Rattle.inc_args.specs.Views.{seen_pp};
+ghost use Rattle.inc_pp.specs.Settings.{found_in_settings, marked_settings, usual_settings};
 ghost use Rattle.inc_cli.specs.Outputs.{IsRun};
-ghost use Rattle.inc_cli.specs.Preprocessings.{IsPreprocessed, PrintsEach, missing_of, pp_asked, pp_of, searched};
+ghost use Rattle.inc_cli.specs.Preprocessings.{IsPreprocessed, PrintsEach, missing_of, pp_apart, pp_asked, pp_named, pp_of, searched, writes_beside, writes_texts};
 ghost use Rattle.inc_inputs.specs.Reports.{out_of_memory};
-ghost use Rattle.inc_cli.specs.Views.{output_of, pp_asked_in, seen_end};
-ghost use Rattle.inc_inputs.specs.Views.{pp_texts_in};
+ghost use Rattle.inc_inputs.specs.Steps.{Comes};
+ghost use Rattle.inc_cli.specs.Views.{answer_in, output_of, pp_asked_in, seen_end};
+ghost use Rattle.inc_inputs.specs.Views.{pp_texts_in, seen};
 
 use crate::answers::Answer;
 use crate::questions::end_of;
 use crate::runs::Setup;
 use inc_args::PpArgs;
 use inc_inputs::{
-    Failure, Inputs, ListedFiles, PpTexts, are_twice, bytes_of, include_path, list_paths,
-    listed_project, path_end_in, read_pp_texts,
+    Failure, Inputs, ListedFiles, PpTexts, are_no_files, are_one, are_twice, bytes_of,
+    include_path, list_paths, listed_project, path_end_in, read_pp_texts, write_if,
 };
 use inc_lookup::{NamedDir, Project};
 use inc_pp::{Missing, Settings};
@@ -24,14 +26,50 @@ use std::mem::forget;
 
 /// Reads what a preprocessing rests on, and prints what it gives of each source.
 pub(crate) fn preprocess<I: Inputs, O: ByteSink>(
-    setup: &Setup,
+    setup: &Setup<'_>,
     args: &PpArgs<'_>,
     inputs: I,
     out: O,
 ) -> (Result<Answer, Failure>, O)
     requires { O.has_failed out ≡ false }
     ensures { seen_end result.0 ≢ Err out_of_memory →
-        IsRun (pp_of I.gives setup.now.language (seen_pp args.now)) (IsPreprocessed I.gives) inputs
+        IsRun (pp_of I.gives setup.now.language (seen_pp args.now)) (IsPreprocessed I.gives I.puts (seen_pp args.now)) inputs
+        (output_of (O.written out) (O.written result.1) (O.has_failed result.1)) (seen_end result.0) }
+{
+    if are_no_files(args.deps, args.status) {
+        return (Err(Failure::NoFile), out);
+    }
+    preprocess_apart(setup, args, inputs, out)
+}
+
+/// The same where each of the words for files to write names one.
+fn preprocess_apart<I: Inputs, O: ByteSink>(
+    setup: &Setup<'_>,
+    args: &PpArgs<'_>,
+    inputs: I,
+    out: O,
+) -> (Result<Answer, Failure>, O)
+    requires { O.has_failed out ≡ false }
+    ensures { seen_end result.0 ≢ Err out_of_memory →
+        IsRun (pp_apart I.gives setup.now.language (seen_pp args.now)) (IsPreprocessed I.gives I.puts (seen_pp args.now)) inputs
+        (output_of (O.written out) (O.written result.1) (O.has_failed result.1)) (seen_end result.0) }
+{
+    if are_one(args.deps, args.status) {
+        return (Err(Failure::OneFile), out);
+    }
+    preprocess_named(setup, args, inputs, out)
+}
+
+/// The same where what is to be written goes to files of its own.
+fn preprocess_named<I: Inputs, O: ByteSink>(
+    setup: &Setup<'_>,
+    args: &PpArgs<'_>,
+    inputs: I,
+    out: O,
+) -> (Result<Answer, Failure>, O)
+    requires { O.has_failed out ≡ false }
+    ensures { seen_end result.0 ≢ Err out_of_memory →
+        IsRun (pp_named I.gives setup.now.language (seen_pp args.now)) (IsPreprocessed I.gives I.puts (seen_pp args.now)) inputs
         (output_of (O.written out) (O.written result.1) (O.has_failed result.1)) (seen_end result.0) }
 {
     if are_twice(&[args.files.list, args.without, args.compiler, args.defines]) {
@@ -51,7 +89,7 @@ pub(crate) fn preprocess<I: Inputs, O: ByteSink>(
 
 /// The same once the texts are read.
 fn preprocess_texts<I: Inputs, O: ByteSink>(
-    setup: &Setup,
+    setup: &Setup<'_>,
     args: &PpArgs<'_>,
     texts: &PpTexts,
     inputs: I,
@@ -59,7 +97,7 @@ fn preprocess_texts<I: Inputs, O: ByteSink>(
 ) -> (Result<Answer, Failure>, O)
     requires { O.has_failed out ≡ false }
     ensures { seen_end result.0 ≢ Err out_of_memory →
-        IsRun (pp_asked setup.now.language (seen_pp args.now) (pp_texts_in texts.now)) (IsPreprocessed I.gives) inputs
+        IsRun (pp_asked setup.now.language (seen_pp args.now) (pp_texts_in texts.now)) (IsPreprocessed I.gives I.puts (seen_pp args.now)) inputs
         (output_of (O.written out) (O.written result.1) (O.has_failed result.1)) (seen_end result.0) }
 {
     let alloc = setup.alloc;
@@ -79,39 +117,72 @@ fn preprocess_texts<I: Inputs, O: ByteSink>(
         Ok(project) => project,
         Err(failure) => return (Err(failure), out),
     };
-    let settings = Settings::usual(setup.language, missing_of(args.is_missing_empty));
-    let settings = settings.with_markers(args.has_markers).with_dirs(&dirs);
+    let settings = settings_of(setup, args, &dirs);
     let question = PpQuestion {
         sources: &sources,
         words: &words,
         settings: &settings,
         without: &texts.without,
+        has_rules: args.deps.is_some(),
+        has_endings: args.status.is_some(),
     };
-    let files = ListedFiles {
+    let mut files = ListedFiles {
         inputs,
         paths: &paths,
     };
-    let (ended, out) = print_each(alloc, &project, files, &question, out);
+    let (ended, out) = print_each(alloc, &project, &mut files, &question, out);
     // The process is about to end: the system takes a table of paths back at once.
     forget(project);
-    (end_of(alloc, ended, Vec::new(alloc), &paths, ""), out)
+    let hindrance = setup.hindrance.get();
+    let told = end_of(alloc, ended, Vec::new(alloc), &paths, "", hindrance);
+    (write_beside(alloc, &mut files.inputs, args, told), out)
+}
+
+/// Writes what stands beside an answer to the files that words name.
+fn write_beside<I: Inputs>(
+    alloc: Global,
+    inputs: &mut I,
+    args: &PpArgs<'_>,
+    told: Result<Answer, Failure>,
+) -> Result<Answer, Failure>
+    ensures { Comes (writes_beside I.puts (seen_pp args.now) (seen_end told)) inputs.old (seen_end result) inputs.new }
+{
+    match told {
+        Ok(answer) => match write_texts(alloc, inputs, args, &answer) {
+            Ok(()) => Ok(answer),
+            Err(failure) => Err(failure),
+        },
+        Err(failure) => Err(failure),
+    }
+}
+
+/// Writes the texts that stand beside an answer, each to the file that a word names.
+fn write_texts<I: Inputs>(
+    alloc: Global,
+    inputs: &mut I,
+    args: &PpArgs<'_>,
+    answer: &Answer,
+) -> Result<(), Failure>
+    ensures { Comes (writes_texts I.puts (seen_pp args.now) (answer_in answer.now)) inputs.old (seen (λ u. u) result) inputs.new }
+{
+    write_if(alloc, inputs, args.deps, answer.end.rules.text())?;
+    write_if(alloc, inputs, args.status, answer.end.endings.text())
 }
 
 /// Prints what the preprocessing of each source gives.
 fn print_each<I: Inputs, O: ByteSink>(
     alloc: Global,
     project: &Project<'_>,
-    files: ListedFiles<'_, I>,
+    files: &mut ListedFiles<'_, I>,
     question: &PpQuestion<'_>,
     out: O,
 ) -> (Result<End, RunFault>, O)
     requires { O.has_failed out ≡ false }
-    ensures { PrintsEach I.gives (pp_asked_in (map (λ p. p.now) files.entry.paths.now) project.now question.now) files.entry.inputs
+    ensures { PrintsEach I.gives (pp_asked_in (map (λ p. p.now) files.old.paths.now) project.now question.now) files.old.inputs files.new.inputs
         (output_of (O.written out) (O.written result.1) (O.has_failed result.1)) result.0 }
 {
-    let mut files = files;
     let mut printed = None;
-    let ended = run_pp(alloc, project, &mut files, question, &mut printed, out);
+    let ended = run_pp(alloc, project, files, question, &mut printed, out);
     // The process is about to end: the system takes thousands of macros back at once.
     forget(printed);
     ended
@@ -128,9 +199,19 @@ fn missing_of(is_empty: bool) -> Missing
     }
 }
 
+/// How sources are preprocessed, by the words, with this include path.
+fn settings_of<'n>(setup: &Setup<'_>, args: &PpArgs<'_>, dirs: &'n [NamedDir<'n>]) -> Settings<'n>
+    ensures { let p = seen_pp args.now in result ≡ found_in_settings dirs.now
+        (marked_settings p.has_markers (usual_settings setup.now.language (missing_of p.is_missing_empty))) }
+{
+    let usual = Settings::usual(setup.language, missing_of(args.is_missing_empty));
+    let marked = usual.with_markers(args.has_markers);
+    marked.with_dirs(dirs)
+}
+
 /// The include path by the words and by what describes a compiler.
 fn searched<'a>(
-    setup: &Setup,
+    setup: &Setup<'_>,
     args: &PpArgs<'a>,
     texts: &'a PpTexts,
 ) -> Result<Vec<NamedDir<'a>>, AllocError>

@@ -20,9 +20,9 @@ use crate::runs::Setup;
 use inc_args::{LimitArgs, QuestionArgs};
 use inc_graph::{Cost, Mark};
 use inc_inputs::{
-    Failure, Inputs, ListedFiles, Places, Texts, are_ends, are_twice, asked_ends, asked_places,
-    bytes_of_words, costs_of, include_path, list_paths, listed_project, names_failure, path_end_in,
-    read_texts,
+    Failure, Hindrance, Inputs, ListedFiles, Places, Texts, are_ends, are_twice, asked_ends,
+    asked_places, bytes_of_words, costs_of, include_path, list_paths, listed_project,
+    names_failure, path_end_in, read_texts,
 };
 use inc_lookup::{NamedDir, Project};
 use inc_report::{
@@ -98,7 +98,7 @@ struct Opened<'t> {
 
 /// Reads what a question rests on, and answers it.
 pub(crate) fn ask<I: Inputs, O: ByteSink>(
-    setup: &Setup,
+    setup: &Setup<'_>,
     command: Command<'_>,
     question: &QuestionArgs<'_>,
     limits: &LimitArgs<'_>,
@@ -135,7 +135,7 @@ fn lacks_ends(command: Command<'_>, question: &QuestionArgs<'_>) -> bool
 
 /// The same where the words name sources and headers.
 fn ask_named<I: Inputs, O: ByteSink>(
-    setup: &Setup,
+    setup: &Setup<'_>,
     command: Command<'_>,
     question: &QuestionArgs<'_>,
     limits: &LimitArgs<'_>,
@@ -183,7 +183,7 @@ fn ask_named<I: Inputs, O: ByteSink>(
 
 /// The same once the texts are read.
 fn ask_texts<'t, I: Inputs, O: ByteSink>(
-    setup: &Setup,
+    setup: &Setup<'_>,
     command: Command<'_>,
     question: &'t QuestionArgs<'t>,
     limits: &'t LimitArgs<'t>,
@@ -243,15 +243,21 @@ fn ask_texts<'t, I: Inputs, O: ByteSink>(
     let files = ListedFiles { inputs, paths };
     let (ended, out) = answer(setup.alloc, command, &project, &asked, &limits, files, out);
     let certificate = command.certificate().unwrap_or("");
-    (
-        end_of(setup.alloc, ended, ends.notes, paths, certificate),
-        out,
-    )
+    let hindrance = setup.hindrance.get();
+    let told = end_of(
+        setup.alloc,
+        ended,
+        ends.notes,
+        paths,
+        certificate,
+        hindrance,
+    );
+    (told, out)
 }
 
 /// What the texts of a question hold.
 fn open_texts<'t>(
-    setup: &Setup,
+    setup: &Setup<'_>,
     question: &'t QuestionArgs<'t>,
     limits: &LimitArgs<'_>,
     list: &'t [u8],
@@ -335,19 +341,20 @@ fn answer<I: Inputs, O: ByteSink>(
     }
 }
 
-/// How a call that prints ended, with what was noted before it, or by what is reported of it.
+/// How a call that prints ended, with what was noted before it, or by what is reported of it and of what stood in the way of a file.
 pub(crate) fn end_of(
     alloc: Global,
     ending: Result<End, RunFault>,
     notes: Vec<u8>,
     paths: &[&[u8]],
     certificate: &str,
+    hindrance: Hindrance,
 ) -> Result<Answer, Failure>
     ensures { seen_end result ≢ Err out_of_memory →
-        seen_end result ≡ ended notes.items (map (λ p. p.now) paths.now) certificate.now ending }
+        seen_end result ≡ ended notes.items (map (λ p. p.now) paths.now) certificate.now hindrance ending }
 {
     match ending {
         Ok(end) => Ok(Answer { end, notes }),
-        Err(fault) => Err(run_failure(alloc, fault, paths, certificate)?),
+        Err(fault) => Err(run_failure(alloc, fault, paths, certificate, hindrance)?),
     }
 }

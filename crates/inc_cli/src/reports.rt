@@ -3,7 +3,7 @@ ghost use Rattle.std.specs.Prelude.{◌≡◌, ◌++◌, ◌∷◌, [], Err, IfO
 ghost use Rattle.std.specs.Io.KnownBytes.{Appends};
 ghost use Rattle.clap.specs.Values.{kind_of};
 ghost use Rattle.inc_text.specs.Devices.{AppendsFront};
-ghost use Rattle.inc_inputs.specs.Reports.{report_line, report_of};
+ghost use Rattle.inc_inputs.specs.Reports.{hindrance_text, report_line, report_of};
 ghost use Rattle.inc_cli.specs.Outputs.{run_report};
 ghost use Rattle.inc_cli.specs.Processes.{IsTold};
 ghost use Rattle.inc_cli.specs.Statuses.{status_of, usage_status};
@@ -11,7 +11,7 @@ ghost use Rattle.inc_cli.specs.Views.{output_of};
 
 use clap::Error;
 use clap::error::ErrorKind;
-use inc_inputs::{Failure, read_failure, written};
+use inc_inputs::{Failure, Hindrance, read_failure, written};
 use inc_report::{End, EndKind, RunFault};
 use inc_text::{ByteSink, DeviceFault, ReadFault, write_whole};
 use std::alloc::{AllocError, Global};
@@ -27,23 +27,22 @@ pub fn exit_of(end: &End) -> u8
     }
 }
 
-/// The failure to report of a call that prints, in a project whose files have these paths, with a certificate of this name; an empty one
-/// where there is none.
+/// The failure to report of a call that prints, in a project whose files have these paths, with a certificate of this name, an empty one
+/// where there is none, and with what stood in the way of a file.
 pub fn run_failure(
     alloc: Global,
     fault: RunFault,
     paths: &[&[u8]],
     certificate: &str,
+    hindrance: Hindrance,
 ) -> Result<Failure, AllocError>
-    ensures { IfOk result (λ failure. report_of failure ≡ run_report fault (map (λ p. p.now) paths.now) certificate.now) }
+    ensures { IfOk result (λ failure. report_of failure ≡ run_report fault (map (λ p. p.now) paths.now) certificate.now hindrance) }
 {
     Ok(match fault {
-        RunFault::CannotRead { file } => Failure::CannotRead(written(
-            alloc,
-            file.index(),
-            paths,
-            &[],
-        )?),
+        RunFault::CannotRead { file } => {
+            let path = written(alloc, file.index(), paths, &[])?;
+            Failure::CannotRead(hindered(path, hindrance)?)
+        }
         RunFault::FileTooLong { file } => Failure::FileTooLong(written(
             alloc,
             file.index(),
@@ -56,6 +55,15 @@ pub fn run_failure(
         RunFault::Write => Failure::CannotWrite,
         RunFault::NoMemory => Failure::NoMemory,
     })
+}
+
+/// A path, and what stood in its way.
+fn hindered(path: Vec<u8>, hindrance: Hindrance) -> Result<Vec<u8>, AllocError>
+    ensures { IfOk result (λ text. text.items ≡ path.items ++ hindrance_text hindrance) }
+{
+    let mut path = path;
+    path.extend_from_slice(hindrance.text())?;
+    Ok(path)
 }
 
 /// Reports a failure in a line, and gives the exit status. Where the line cannot be written, the status still reports the failure.

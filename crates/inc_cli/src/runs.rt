@@ -5,7 +5,7 @@ ghost use Rattle.inc_args.specs.CompilerWords.{as_options};
 ghost use Rattle.inc_args.specs.Meaning.{meaning};
 ghost use Rattle.inc_args.specs.Views.{seen_arguments, seen_forms, seen_languages, seen_question, seen_request};
 ghost use Rattle.inc_cli.specs.Languages.{language_of};
-ghost use Rattle.inc_cli.specs.Processes.{form_of, who_of, IsAnswer, IsAnswerTo, IsPromise, IsPromiseOf, IsRefusedRun, IsTold, IsToldRun};
+ghost use Rattle.inc_cli.specs.Processes.{form_of, who_of, IsAnswer, IsAnswerFrom, IsAnswerTo, IsPromise, IsPromiseFrom, IsPromiseOf, IsRefusedRun, IsTold, IsToldRun};
 ghost use Rattle.inc_inputs.specs.Reports.{out_of_memory};
 ghost use Rattle.inc_cli.specs.Views.{output_of, seen_command, seen_end};
 ghost use Rattle.inc_inputs.specs.Views.{seen};
@@ -21,19 +21,21 @@ use inc_args::{
     ArgsFault, Arguments, FormArgs, LanguageArgs, LimitArgs, QuestionArgs, Request, as_options,
     read_args,
 };
-use inc_inputs::{Failure, Inputs, are_ends};
-use inc_text::ByteSink;
-use inc_token::Language;
+use inc_inputs::{Failure, Hindrance, Inputs, are_ends};
+use inc_text::{ByteSink, Language};
 use std::alloc::Global;
+use std::cell::Cell;
 
 /// What all commands are run with.
 #[derive(Clone, Copy)]
-pub(crate) struct Setup {
+pub(crate) struct Setup<'s> {
     pub(crate) alloc: Global,
     /// Tables are hashed with it.
     pub(crate) seed: u64,
     /// The language of the files.
     pub(crate) language: Language,
+    /// What stood in the way of the file of the list that was not read.
+    pub(crate) hindrance: &'s Cell<Hindrance>,
 }
 
 /// How a run ends.
@@ -47,12 +49,13 @@ pub enum Ended {
 
 /// Runs the command that the words ask for, the name of the program first; some may be spelled as compilers have them. Its answer goes to
 /// `out`, and the report of a failure, or the notes beside an answer, to `messages`. Tables are hashed with the seed, so whoever writes the
-/// files must not know it.
+/// files must not know it. Where the inputs do not read a file of the list, `hindrance` holds what stood in its way.
 pub fn run<I: Inputs, O: ByteSink, E: ByteSink>(
     alloc: Global,
     seed: u64,
     words: &[String],
     inputs: I,
+    hindrance: &Cell<Hindrance>,
     out: O,
     messages: E,
 ) -> (Ended, O, E)
@@ -62,19 +65,19 @@ pub fn run<I: Inputs, O: ByteSink, E: ByteSink>(
         (output_of (O.written out) (O.written result.1) (O.has_failed result.1))
         (output_of (E.written messages) (E.written result.2) (E.has_failed result.2)) result.0 }
     ensures answered { let m = meaning (as_options (map string_bytes words.now)) in
-        IsToldRun m.is_quiet (IsAnswer I.gives (record { opens = I.opens; left = I.Stream.left }) m inputs
+        IsToldRun m.is_quiet (IsAnswer I.begins I.gives I.puts (record { opens = I.opens; left = I.Stream.left }) m inputs
         (output_of (O.written out) (O.written result.1) (O.has_failed result.1)))
         (output_of (E.written messages) (E.written result.2) (E.has_failed result.2)) result.0 }
     // What a cut promises: no preprocessing of the source that the words name reads their header, and nothing cheaper separates.
     ensures promised { let m = meaning (as_options (map string_bytes words.now)) in
-        IsToldRun m.is_quiet (IsPromise I.gives (record { opens = I.opens; left = I.Stream.left }) m inputs
+        IsToldRun m.is_quiet (IsPromise I.begins I.gives (record { opens = I.opens; left = I.Stream.left }) m inputs
         (output_of (O.written out) (O.written result.1) (O.has_failed result.1)))
         (output_of (E.written messages) (E.written result.2) (E.has_failed result.2)) result.0 }
 {
     match as_options(alloc, words) {
         Ok(options) => {
             let words = taken(&options, words);
-            run_options(alloc, seed, words, inputs, out, messages)
+            run_options(alloc, seed, words, inputs, hindrance, out, messages)
         }
         Err(_) => {
             let (status, messages) = tell(&Err(Failure::NoMemory), false, messages);
@@ -100,6 +103,7 @@ fn run_options<I: Inputs, O: ByteSink, E: ByteSink>(
     seed: u64,
     words: &[String],
     inputs: I,
+    hindrance: &Cell<Hindrance>,
     out: O,
     messages: E,
 ) -> (Ended, O, E)
@@ -109,17 +113,17 @@ fn run_options<I: Inputs, O: ByteSink, E: ByteSink>(
         (output_of (O.written out) (O.written result.1) (O.has_failed result.1))
         (output_of (E.written messages) (E.written result.2) (E.has_failed result.2)) result.0 }
     ensures answered { let m = meaning (map string_bytes words.now) in
-        IsToldRun m.is_quiet (IsAnswer I.gives (record { opens = I.opens; left = I.Stream.left }) m inputs
+        IsToldRun m.is_quiet (IsAnswer I.begins I.gives I.puts (record { opens = I.opens; left = I.Stream.left }) m inputs
         (output_of (O.written out) (O.written result.1) (O.has_failed result.1)))
         (output_of (E.written messages) (E.written result.2) (E.has_failed result.2)) result.0 }
     ensures promised { let m = meaning (map string_bytes words.now) in
-        IsToldRun m.is_quiet (IsPromise I.gives (record { opens = I.opens; left = I.Stream.left }) m inputs
+        IsToldRun m.is_quiet (IsPromise I.begins I.gives (record { opens = I.opens; left = I.Stream.left }) m inputs
         (output_of (O.written out) (O.written result.1) (O.has_failed result.1)))
         (output_of (E.written messages) (E.written result.2) (E.has_failed result.2)) result.0 }
 {
     match read_args(alloc, words) {
         Ok(args) => {
-            let (ended, out) = answer(alloc, seed, &args, inputs, out);
+            let (ended, out) = answer(alloc, seed, &args, inputs, hindrance, out);
             let (status, messages) = tell(&ended, args.is_quiet, messages);
             (Ended::Status(status), out, messages)
         }
@@ -137,14 +141,37 @@ fn answer<I: Inputs, O: ByteSink>(
     seed: u64,
     args: &Arguments<'_>,
     inputs: I,
+    hindrance: &Cell<Hindrance>,
     out: O,
 ) -> (Result<Answer, Failure>, O)
     requires { O.has_failed out ≡ false }
     ensures answered { seen_end result.0 ≢ Err out_of_memory →
-        IsAnswer I.gives (record { opens = I.opens; left = I.Stream.left }) (seen_arguments args.now) inputs
+        IsAnswer I.begins I.gives I.puts (record { opens = I.opens; left = I.Stream.left }) (seen_arguments args.now) inputs
         (output_of (O.written out) (O.written result.1) (O.has_failed result.1)) (seen_end result.0) }
     ensures promised { seen_end result.0 ≢ Err out_of_memory →
-        IsPromise I.gives (record { opens = I.opens; left = I.Stream.left }) (seen_arguments args.now) inputs
+        IsPromise I.begins I.gives (record { opens = I.opens; left = I.Stream.left }) (seen_arguments args.now) inputs
+        (output_of (O.written out) (O.written result.1) (O.has_failed result.1)) (seen_end result.0) }
+{
+    let mut inputs = inputs;
+    inputs.begin(args.follows);
+    answer_from(alloc, seed, args, inputs, hindrance, out)
+}
+
+/// The same once it is set whether links are followed.
+fn answer_from<I: Inputs, O: ByteSink>(
+    alloc: Global,
+    seed: u64,
+    args: &Arguments<'_>,
+    inputs: I,
+    hindrance: &Cell<Hindrance>,
+    out: O,
+) -> (Result<Answer, Failure>, O)
+    requires { O.has_failed out ≡ false }
+    ensures answered { seen_end result.0 ≢ Err out_of_memory →
+        IsAnswerFrom I.gives I.puts (record { opens = I.opens; left = I.Stream.left }) (seen_arguments args.now) inputs
+        (output_of (O.written out) (O.written result.1) (O.has_failed result.1)) (seen_end result.0) }
+    ensures promised { seen_end result.0 ≢ Err out_of_memory →
+        IsPromiseFrom I.gives (record { opens = I.opens; left = I.Stream.left }) (seen_arguments args.now) inputs
         (output_of (O.written out) (O.written result.1) (O.has_failed result.1)) (seen_end result.0) }
 {
     match language_of(args.languages) {
@@ -153,6 +180,7 @@ fn answer<I: Inputs, O: ByteSink>(
                 alloc,
                 seed,
                 language,
+                hindrance,
             };
             answer_in(&setup, &args.request, inputs, out)
         }
@@ -162,14 +190,14 @@ fn answer<I: Inputs, O: ByteSink>(
 
 /// Runs a command over files in a language.
 fn answer_in<I: Inputs, O: ByteSink>(
-    setup: &Setup,
+    setup: &Setup<'_>,
     request: &Request<'_>,
     inputs: I,
     out: O,
 ) -> (Result<Answer, Failure>, O)
     requires { O.has_failed out ≡ false }
     ensures answered { seen_end result.0 ≢ Err out_of_memory →
-        IsAnswerTo I.gives (record { opens = I.opens; left = I.Stream.left }) setup.now.language (seen_request request.now) inputs
+        IsAnswerTo I.gives I.puts (record { opens = I.opens; left = I.Stream.left }) setup.now.language (seen_request request.now) inputs
         (output_of (O.written out) (O.written result.1) (O.has_failed result.1)) (seen_end result.0) }
     ensures promised { seen_end result.0 ≢ Err out_of_memory →
         IsPromiseOf I.gives (record { opens = I.opens; left = I.Stream.left }) setup.now.language (seen_request request.now) inputs

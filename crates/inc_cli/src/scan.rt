@@ -8,14 +8,14 @@ ghost use Rattle.inc_cli.specs.Views.{output_of, seen_end};
 use crate::answers::Answer;
 use crate::questions::end_of;
 use crate::runs::Setup;
-use inc_inputs::{Failure, Inputs, unread};
+use inc_inputs::{Failure, Hindrance, Inputs, unread};
 use inc_report::{run_scan_owned, run_scan_too_long};
 use inc_text::{ByteSink, ReadFault};
 use std::alloc::Global;
 
 /// Prints the include directives of a file; of standard input, under the path `-`, where there is no path.
 pub(crate) fn list_directives<I: Inputs, O: ByteSink>(
-    setup: &Setup,
+    setup: &Setup<'_>,
     path: Option<&str>,
     inputs: I,
     out: O,
@@ -46,7 +46,7 @@ fn read_scanned<I: Inputs>(
 
 /// Prints the include directives of what was read.
 fn print_directives<O: ByteSink>(
-    setup: &Setup,
+    setup: &Setup<'_>,
     path: Option<&str>,
     source: Result<Vec<u8>, ReadFault>,
     out: O,
@@ -58,15 +58,22 @@ fn print_directives<O: ByteSink>(
 {
     let alloc = setup.alloc;
     let name = path.unwrap_or("-").as_bytes();
+    let title = path.unwrap_or("<stdin>").as_bytes();
     match source {
         Ok(source) => {
-            let (ended, out) = run_scan_owned(alloc, name, source, setup.language, out);
-            (end_of(alloc, ended, Vec::new(alloc), &[], ""), out)
+            let (ended, out) = run_scan_owned(alloc, name, title, source, setup.language, out);
+            (
+                end_of(alloc, ended, Vec::new(alloc), &[], "", Hindrance::Other),
+                out,
+            )
         }
         // Standard input is no file: what is too long is refused, as a source that is handed in.
         Err(ReadFault::TooLong) if path.is_none() => {
             let (ended, out) = run_scan_too_long(alloc, out);
-            (end_of(alloc, ended, Vec::new(alloc), &[], ""), out)
+            (
+                end_of(alloc, ended, Vec::new(alloc), &[], "", Hindrance::Other),
+                out,
+            )
         }
         Err(fault) => (Err(unread(alloc, fault, name)), out),
     }

@@ -8,5 +8,6 @@ pub mod SymbolSteps
 pub mod OperandSteps
 pub mod QuestionSteps
 pub mod NumberLemmas
+pub mod CharacterSteps
 pub mod KnownValues
 pub mod MemoryFaults

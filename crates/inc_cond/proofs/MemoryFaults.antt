@@ -16,7 +16,8 @@ use Rattle.inc_cond.specs.declared.faults.CondFault.TheVariants.{Expand, BadExpr
 use Rattle.inc_cond.specs.declared.operators.Binary.{Binary}
 use Rattle.inc_cond.specs.declared.operators.Binary.TheVariants.{Or, And, BitOr, BitXor, BitAnd, Equal, Unequal, Less, Greater, LessEqual, GreaterEqual, ShiftLeft, ShiftRight, Add, Subtract, Multiply, Divide, Remainder}
 use Rattle.inc_cond.specs.declared.values.Value.{Value}
-use Rattle.inc_cond.specs.Constants.{number_value, character_value}
+use Rattle.inc_cond.specs.Constants.{number_value}
+use Rattle.inc_cond.specs.GnuCharacters.{character_in}
 use Rattle.inc_cond.specs.Headers.{Header, HeaderSearch, asked_header}
 use Rattle.inc_cond.specs.Symbols.{constant_symbol, header_symbol, is_next_question, symbol, symbols_from}
 use Rattle.inc_cond.specs.Values.{is_zero, as_type, if_count, if_divisor, binary_value}
@@ -54,7 +55,7 @@ symbol_has search table HeaderName text rest = tt
 symbol_has search table Identifier text rest =
     if_has (asks_headers table.language text) _ _ (header_has search (is_next_question text) (asked_header rest)) tt
 symbol_has search table Number text rest = constant_has BadNumber (number_value table.language text) ((λ e. cc), (λ e. cc))
-symbol_has search table Char text rest = constant_has BadCharacter (character_value text) ((λ e. cc), (λ e. cc))
+symbol_has search table Char text rest = constant_has BadCharacter (character_in table.language text) ((λ e. cc), (λ e. cc))
 symbol_has search table Str text rest = tt
 symbol_has search table Punct text rest = tt
 symbol_has search table Other text rest = tt

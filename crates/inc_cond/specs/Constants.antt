@@ -5,8 +5,8 @@ use Rattle.std.specs.Prelude.{ℕ, ◌+◌, ◌-◌, ◌*◌, ◌^◌, ◌==◌,
 use Rattle.std.specs.List.{list_any, list_all, prefix_len}
 use Rattle.inc_text.specs.Ascii.{alert, apostrophe, backslash, backspace, capital_a, capital_f, capital_u, carriage_return, digit_nine, digit_zero, form_feed, line_feed, question_mark, quotation_mark, small_a, small_b, small_f, small_n, small_r, small_t, small_u, small_v, small_x, tab, vertical_tab}
 use Rattle.inc_token.specs.Spellings.{is_within}
-use Rattle.inc_token.specs.declared.kinds.Language.{Language}
-use Rattle.inc_token.specs.declared.kinds.Language.TheVariants.{C17}
+use Rattle.inc_text.specs.declared.languages.Language.{Language}
+use Rattle.inc_text.specs.declared.languages.Language.TheVariants.{C17}
 use Rattle.inc_cond.specs.declared.values.Value.{Value}
 use Rattle.inc_cond.specs.Values.{wrapped}
 

@@ -1,5 +1,6 @@
 pub mod Values
 pub mod Constants
+pub mod GnuCharacters
 pub mod Headers
 pub mod Symbols
 pub mod Expressions

@@ -10,7 +10,8 @@ use Rattle.inc_cond.specs.declared.faults.CondFault.{CondFault}
 use Rattle.inc_cond.specs.declared.faults.CondFault.TheVariants.{BadExpression, BadNumber, BadCharacter}
 use Rattle.inc_cond.specs.declared.values.Value.{Value}
 use Rattle.inc_cond.specs.Values.{truth}
-use Rattle.inc_cond.specs.Constants.{number_value, character_value}
+use Rattle.inc_cond.specs.Constants.{number_value}
+use Rattle.inc_cond.specs.GnuCharacters.{character_in}
 use Rattle.inc_cond.specs.Headers.{Header, HeaderSearch, asked_header, is_found}
 
 -- what a token is in an expression: a constant, a punctuator with its spelling, or neither
@@ -66,7 +67,7 @@ symbol search table Identifier text rest =
     if asks_headers table.language text then header_symbol search (is_next_question text) (asked_header rest)
     else Ok (identifier_symbol table text rest)
 symbol search table Number text rest = constant_symbol BadNumber (number_value table.language text)
-symbol search table Char text rest = constant_symbol BadCharacter (character_value text)
+symbol search table Char text rest = constant_symbol BadCharacter (character_in table.language text)
 symbol search table Punct text rest = Ok (Sign text, 0)
 symbol search table _ text rest = Ok (Stray, 0)
 

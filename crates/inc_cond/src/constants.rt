@@ -1,11 +1,11 @@
 //! Integer constants and character constants.
-ghost use Rattle.std.specs.Prelude.{◌≡◌, ◌≤◌, ◌+◌, ◌*◌, true, length, take, codes, bytes_eq, option_and_then};
+ghost use Rattle.std.specs.Prelude.{◌≡◌, ◌<◌, ◌≤◌, ◌+◌, ◌*◌, true, IfSome, length, take, codes, bytes_eq, option_and_then};
 ghost use Rattle.std.specs.List.{prefix_len, list_all};
 ghost use Rattle.inc_cond.specs.Constants as spec;
 ghost use Rattle.inc_cond.specs.Numerals.{has_prefix, if_fits};
 
 use crate::values::Value;
-use inc_token::Language;
+use inc_text::Language;
 
 /// The value of an integer constant (ISO/IEC 9899:2018, 6.4.4.1); `None` where the text is none, or its value is 2^64 or more.
 pub fn number_value(language: Language, text: &[u8]) -> Option<Value>
@@ -69,7 +69,7 @@ fn is_digit_in(base: u32, byte: u8) -> bool
 }
 
 /// How many digits of the base a text begins with.
-fn digits_in(base: u32, text: &[u8]) -> usize
+pub(crate) fn digits_in(base: u32, text: &[u8]) -> usize
     ensures digits { result ≡ prefix_len (spec.is_digit_in base) text.now }
     ensures within { result ≤ length text.now }
 {
@@ -79,7 +79,7 @@ fn digits_in(base: u32, text: &[u8]) -> usize
 }
 
 /// The number that digits stand for; `None` where it is 2^64 or more.
-fn number_in(base: u32, digits: &[u8]) -> Option<u64>
+pub(crate) fn number_in(base: u32, digits: &[u8]) -> Option<u64>
     requires { (1 ≤ base) × (base ≤ 16) }
     ensures { result ≡ if_fits (spec.number_in base digits.now) }
 {
@@ -148,7 +148,7 @@ fn suffix(text: &[u8]) -> Option<bool>
 }
 
 /// The value of a character constant (6.4.4.4), with its quotes; `None` where it has none.
-pub fn character_value(text: &[u8]) -> Option<Value>
+pub(crate) fn character_value(text: &[u8]) -> Option<Value>
     ensures { result ≡ spec.character_value text.now }
 {
     if text.is_empty() {
@@ -236,8 +236,9 @@ fn are_digits(base: u32, text: &[u8]) -> bool
 }
 
 /// The code of the escape sequence of one byte.
-fn simple_escape(byte: u8) -> Option<u64>
-    ensures { result ≡ spec.simple_escape byte }
+pub(crate) fn simple_escape(byte: u8) -> Option<u64>
+    ensures code { result ≡ spec.simple_escape byte }
+    ensures byte { IfSome result (λ code. code < 256) }
 {
     match byte {
         b'\'' | b'"' | b'?' | b'\\' => Some(u64::from(byte)),
@@ -253,7 +254,7 @@ fn simple_escape(byte: u8) -> Option<u64>
 }
 
 /// A code as a signed number of 8 bits.
-fn narrow_value(code: u64) -> Option<Value>
+pub(crate) fn narrow_value(code: u64) -> Option<Value>
     ensures { result ≡ spec.narrow_value code }
 {
     let bits = match code {

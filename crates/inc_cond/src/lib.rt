@@ -2,6 +2,7 @@
 #![tactic(auto)]
 
 mod arithmetic;
+mod characters;
 mod conditions;
 mod constants;
 mod faults;

@@ -8,7 +8,8 @@ ghost use Rattle.inc_cond.specs.Headers.{HeaderSearch};
 ghost use Rattle.inc_cond.specs.Symbols.{asked, asks, asks_header, constant_symbol, identifier_symbol, is_next_question, symbol};
 ghost use Rattle.inc_cond.specs.SymbolViews.{seen_taken};
 
-use crate::constants::{character_value, number_value};
+use crate::characters::character_in;
+use crate::constants::number_value;
 use crate::faults::CondFault;
 use crate::values::Value;
 use inc_expand::Item;
@@ -43,7 +44,10 @@ pub fn symbol_of<'t>(
     match kind {
         Kind::Identifier => Ok(name_symbol(macros, text, rest)),
         Kind::Number => constant(number_value(macros.language(), text), CondFault::BadNumber),
-        Kind::Char => constant(character_value(text), CondFault::BadCharacter),
+        Kind::Char => constant(
+            character_in(macros.language(), text),
+            CondFault::BadCharacter,
+        ),
         Kind::Punct => Ok((Symbol::Sign(text), 0)),
         _ => Ok((Symbol::Stray, 0)),
     }

@@ -8,7 +8,7 @@ use Rattle.std.proofs.lemmas.List.Elements.{All-head}
 use Rattle.std.proofs.lemmas.List.Folds.{list_any-append}
 use Rattle.std.proofs.lemmas.Option.{slice_get_within, get_or_from_slice_get}
 use Rattle.inc_text.specs.PhaseText.{phase_text}
-use Rattle.inc_token.specs.declared.kinds.Language.{Language}
+use Rattle.inc_text.specs.declared.languages.Language.{Language}
 use Rattle.inc_token.specs.Blanking.{begins_on, blanked, blanked_from, blanked_lines, line_range, ranges_of}
 use Rattle.inc_token.specs.TokenLaws.{AreTokenLinesFrom, IsOnLines}
 use Rattle.inc_token.specs.TokenLines.{Tok, TokenLine, token_lines}
@@ -105,7 +105,7 @@ module _ (language : Language) (remove kept : List ℕ) where
 
 -- blanking by the lines of `remove` on which an include directive begins
 pub kept_are_removed : (language : Language) (remove source : List ℕ) (lines : List TokenLine) (flags : ℕ → Bool)
-    → token_lines language (phase_text source) ≡ Ok lines → ((n : ℕ) → flags n ≡ includes_on language lines n)
+    → token_lines language (phase_text language source) ≡ Ok lines → ((n : ℕ) → flags n ≡ includes_on language lines n)
     → blanked (filter flags remove) lines source ≡ blanked_lines (is_removed language (is_among remove)) lines source
 kept_are_removed language remove source lines flags is known =
     ap (λ rs. blanked_from 0 rs source)

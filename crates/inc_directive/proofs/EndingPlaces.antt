@@ -3,7 +3,7 @@ use Rattle.std.proofs.Common.{◌≡◌, ℕ, zero, suc, ◌+◌, ◌<◌, ◌�
 use Rattle.std.proofs.lemmas.List.{length-drop}
 use Rattle.std.proofs.lemmas.Option.{slice_get_within}
 use Rattle.inc_token.specs.TokenLines.{TokenLine}
-use Rattle.inc_token.specs.declared.kinds.Language.{Language}
+use Rattle.inc_text.specs.declared.languages.Language.{Language}
 use Rattle.inc_directive.specs.Groups.{FileLine, Group, Empty, Ending, FileEnd, Faulty, AtElif, AtElse, AtEndif, Closed, Link, links, link_at, directive_line, with_branch, with_section, role, with_line, branches, else_branch, whole, group_at, group_tree, file_lines, file_lines_from, file_links, links_of_tree}
 use Rattle.inc_directive.specs.Jumps.{LeadsOn, closing}
 use Rattle.inc_directive.specs.Plans.{Outlook, first_of, condition_closing, else_closing, before_line, jump_to, jump_of, link_of}

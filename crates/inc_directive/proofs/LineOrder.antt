@@ -7,7 +7,7 @@ use Rattle.inc_text.specs.PhaseText.{phase_text}
 use Rattle.inc_text.proofs.TextLines.{phase_text-ascends}
 use Rattle.inc_token.specs.TokenLaws.{IsOnLines, AreTokenLinesFrom}
 use Rattle.inc_token.specs.TokenLines.{Tok, TokenLine, token_lines}
-use Rattle.inc_token.specs.declared.kinds.Language.{Language}
+use Rattle.inc_text.specs.declared.languages.Language.{Language}
 use Rattle.inc_token.specs.declared.lines.LexFault.{LexFault}
 use Rattle.inc_token.proofs.LineOrder.{token_lines-ascend}
 use Rattle.inc_directive.specs.FileDirectives.{Directive, directive_of, directives_in, tree_directives, line_directives, file_directives}
@@ -50,9 +50,9 @@ by_lines language line (Err fault) h = tt
 by_lines language line (Ok ls) h =
     by_tree line (file_lines language ls) (file_tree language ls) (lines-group_tree (file_lines language ls)) (ascend_in language line 0 ls h)
 
-pub file_directives-ascend : (language : Language) (bytes : List ℕ) → IfOk (file_directives language (phase_text bytes)) (AscendFrom 1)
+pub file_directives-ascend : (language : Language) (bytes : List ℕ) → IfOk (file_directives language (phase_text language bytes)) (AscendFrom 1)
 file_directives-ascend language bytes =
-    by_lines language 1 (token_lines language (phase_text bytes)) (token_lines-ascend language 1 (phase_text bytes) (phase_text-ascends bytes))
+    by_lines language 1 (token_lines language (phase_text language bytes)) (token_lines-ascend language 1 (phase_text language bytes) (phase_text-ascends language bytes))
 
 pub all_from : (line : ℕ) (ds : List Directive) → AscendFrom line ds → All (λ (d : Directive). line ≤ d.line) ds
 all_from line [] h = All-nil (λ (d : Directive). line ≤ d.line)
@@ -78,9 +78,9 @@ weaker : (P Q : List Directive → Type 0) → ((ds : List Directive) → P ds �
 weaker P Q f (Ok ds) h = f ds h
 weaker P Q f (Err fault) h = tt
 
-pub from_line_one : (language : Language) (bytes : List ℕ) → IfOk (file_directives language (phase_text bytes)) (All (λ (d : Directive). 1 ≤ d.line))
-from_line_one language bytes = weaker (AscendFrom 1) (All (λ (d : Directive). 1 ≤ d.line)) (all_from 1) (file_directives language (phase_text bytes)) (file_directives-ascend language bytes)
+pub from_line_one : (language : Language) (bytes : List ℕ) → IfOk (file_directives language (phase_text language bytes)) (All (λ (d : Directive). 1 ≤ d.line))
+from_line_one language bytes = weaker (AscendFrom 1) (All (λ (d : Directive). 1 ≤ d.line)) (all_from 1) (file_directives language (phase_text language bytes)) (file_directives-ascend language bytes)
 
-pub lines_rise : (language : Language) (bytes : List ℕ) → IfOk (file_directives language (phase_text bytes)) (λ ds. IsStrictlyIncreasing (lines ds))
+pub lines_rise : (language : Language) (bytes : List ℕ) → IfOk (file_directives language (phase_text language bytes)) (λ ds. IsStrictlyIncreasing (lines ds))
 lines_rise language bytes =
-    weaker (AscendFrom 1) (λ ds. IsStrictlyIncreasing (lines ds)) (strictly 1) (file_directives language (phase_text bytes)) (file_directives-ascend language bytes)
+    weaker (AscendFrom 1) (λ ds. IsStrictlyIncreasing (lines ds)) (strictly 1) (file_directives language (phase_text language bytes)) (file_directives-ascend language bytes)

@@ -11,7 +11,7 @@ use Rattle.inc_text.specs.PhaseText.{Cell}
 use Rattle.inc_token.specs.LineWalk.{are_none, lines_at, spaced_first, tokens_of_lines}
 use Rattle.inc_token.specs.Prefixes.{prefix_of}
 use Rattle.inc_token.specs.TokenLines.{Tok, TokenLine}
-use Rattle.inc_token.specs.declared.kinds.Language.{Language}
+use Rattle.inc_text.specs.declared.languages.Language.{Language}
 use Rattle.inc_directive.specs.Groups.{FileLine, file_lines_from, role}
 use Rattle.inc_directive.specs.LineKinds.{Text, line_kind, line_of_tokens}
 use Rattle.inc_directive.specs.Parts.{FilePart, TextPart, DirectivePart, AreKept, AreNumbered, Fits, IsKept, IsPart, IsTagOf, directive_part, first_tokens, is_blank, is_named, is_text, kept_line, kept_lines, kind_of, lines_in, lines_of_parts, part_kind, part_line, part_role, part_with, parts_from}

@@ -6,7 +6,7 @@ use Rattle.inc_token.specs.Prefixes.{Operand, Prefix, first_operand, prefix_afte
 use Rattle.inc_token.specs.TokenLines.{Tok, include_name, is_hash}
 use Rattle.inc_token.specs.declared.kinds.IncludeName.{IncludeName}
 use Rattle.inc_directive.specs.declared.kinds.DirectiveKind.{DirectiveKind}
-use Rattle.inc_token.specs.declared.kinds.Language.{Language}
+use Rattle.inc_text.specs.declared.languages.Language.{Language}
 use Rattle.inc_directive.specs.LineKinds.{Text, include_or, target_of, directive_kind, line_kind, line_of_tokens, prefix_kind}
 
 -- the operand does not count where the name is that of no include directive

@@ -13,7 +13,7 @@ use Rattle.inc_token.specs.TokenLines.{include_name, Tok, TokenLine, lines_from,
 use Rattle.inc_token.specs.Views.{seen_operand, seen_prefix}
 use Rattle.inc_token.specs.declared.kinds.Kind.{Kind}
 use Rattle.inc_token.specs.declared.kinds.Kind.TheVariants.{Identifier}
-use Rattle.inc_token.specs.declared.kinds.Language.{Language}
+use Rattle.inc_text.specs.declared.languages.Language.{Language}
 use Rattle.inc_token.specs.declared.lines.LexFault.{LexFault}
 use Rattle.inc_token.specs.declared.lines.fronts.LineSketch.{LineSketch}
 use Rattle.inc_token.specs.declared.lines.fronts.Operand.{Operand as OperandValue}

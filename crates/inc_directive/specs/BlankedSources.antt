@@ -2,7 +2,7 @@
 use Rattle.std.specs.Prelude.{ℕ, ◌==◌, ◌&&◌, Bool, List, Result, Ok, Err}
 use Rattle.std.specs.List.{list_any}
 use Rattle.inc_text.specs.PhaseText.{phase_text}
-use Rattle.inc_token.specs.declared.kinds.Language.{Language}
+use Rattle.inc_text.specs.declared.languages.Language.{Language}
 use Rattle.inc_token.specs.declared.lines.LexFault.{LexFault}
 use Rattle.inc_token.specs.Blanking.{blanked_lines}
 use Rattle.inc_token.specs.TokenLines.{Tok, TokenLine, token_lines}
@@ -15,7 +15,7 @@ blanked_by language removed (Ok ls) source = blanked_lines (is_removed language 
 blanked_by language removed (Err fault) source = source
 
 abbrev pub blanked_source : Language → (removed : ℕ → Bool) → List ℕ → List ℕ
-blanked_source language removed source = blanked_by language removed (token_lines language (phase_text source)) source
+blanked_source language removed source = blanked_by language removed (token_lines language (phase_text language source)) source
 
 -- the tokens are an include directive that begins on the physical line
 abbrev pub is_include_on : Language → ℕ → List Tok → Bool

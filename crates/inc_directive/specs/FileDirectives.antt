@@ -1,7 +1,7 @@
 -- The directives of a file by its text (ISO/IEC 9899:2018, 5.1.1.2 phase 3, and 6.10), or the first fault.
 use Rattle.std.specs.Prelude.{◌≡◌, ℕ, List, [], ◌∷◌, Option, Some, None, Result, Ok, Err, filter_map, unwrap_or}
 use Rattle.inc_text.specs.PhaseText.{Cell}
-use Rattle.inc_token.specs.declared.kinds.Language.{Language}
+use Rattle.inc_text.specs.declared.languages.Language.{Language}
 use Rattle.inc_token.specs.declared.lines.LexFault.{LexFault}
 use Rattle.inc_token.specs.declared.lines.LexFault.TheVariants as lex
 use Rattle.inc_token.specs.TokenLines.{TokenLine, token_lines}

@@ -1,7 +1,7 @@
 -- Groups and if-sections of a file (ISO/IEC 9899:2018, 6.10 paragraph 1 and 6.10.1): the tree of its lines, or the first
 -- fault from the top. The tree is found from the end of the file: what is from a line on is a group and what ends it.
 use Rattle.std.specs.Prelude.{ℕ, ◌+◌, ◌==◌, List, [], ◌∷◌, ◌++◌, Option, Result, Ok, Err, find}
-use Rattle.inc_token.specs.declared.kinds.Language.{Language}
+use Rattle.inc_text.specs.declared.languages.Language.{Language}
 use Rattle.inc_token.specs.TokenLines.{Tok, TokenLine}
 use Rattle.inc_directive.specs.LineKinds.{LineKind, Text, Other, line_kind, line_of_tokens}
 use Rattle.inc_directive.specs.declared.kinds.DirectiveKind.TheVariants.{If, Ifdef, Ifndef, Elif, Elifdef, Elifndef, Else, Endif}

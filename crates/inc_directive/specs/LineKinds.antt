@@ -4,8 +4,8 @@
 -- number in place of a name for a line marker.
 use Rattle.std.specs.Prelude.{ℕ, ◌-◌, ◌==◌, Bool, true, false, List, [], ◌∷◌, ◌++◌, if◌then◌else◌, length, slice_get, slice_range, slice_index, Option, Some, None, unwrap_or, option_map, find, codes, bytes_eq}
 use Rattle.inc_text.specs.Ascii.{quotation_mark}
-use Rattle.inc_token.specs.declared.kinds.Language.{Language}
-use Rattle.inc_token.specs.declared.kinds.Language.TheVariants.{C17, Extended, Gnu}
+use Rattle.inc_text.specs.declared.languages.Language.{Language}
+use Rattle.inc_text.specs.declared.languages.Language.TheVariants.{C17, Extended, Gnu}
 use Rattle.inc_token.specs.declared.kinds.Kind.{Kind}
 use Rattle.inc_token.specs.declared.kinds.Kind.TheVariants.{HeaderName, Identifier, Number}
 use Rattle.inc_directive.specs.declared.kinds.DirectiveKind.{DirectiveKind}
@@ -81,7 +81,7 @@ marker_kind _ = Unknown
 
 -- the kind of a directive with none of these names: GNU C has line markers
 abbrev pub unnamed_kind : Language → List ℕ → DirectiveKind
-unnamed_kind Gnu name = marker_kind (class_of name)
+unnamed_kind Gnu name = marker_kind (class_of Gnu name)
 unnamed_kind _ name = Unknown
 
 -- the kind of a directive that does not include, by its name

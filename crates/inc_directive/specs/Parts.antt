@@ -6,7 +6,7 @@ use Rattle.inc_text.specs.PhaseText.{Cell, bytes_of, longest_text}
 use Rattle.inc_token.specs.LineWalk.{are_none, lines_at}
 use Rattle.inc_token.specs.Prefixes.{Operand, prefix_of}
 use Rattle.inc_token.specs.TokenLines.{Tok, TokenLine, token_lines}
-use Rattle.inc_token.specs.declared.kinds.Language.{Language}
+use Rattle.inc_text.specs.declared.languages.Language.{Language}
 use Rattle.inc_token.specs.declared.lines.fronts.TextRun.{TextRun}
 use Rattle.inc_directive.specs.FileDirectives.{Directive, directives_in}
 use Rattle.inc_directive.specs.Groups.{FileLine, file_lines_from, role}

@@ -2,7 +2,7 @@
 -- whatever group it is.
 use Rattle.std.specs.Prelude.{ℕ, ◌==◌, ◌&&◌, not, Bool, true, false, List, [], Result, Ok, Err, if◌then◌else◌, filter, map}
 use Rattle.std.specs.List.{list_any}
-use Rattle.inc_token.specs.declared.kinds.Language.{Language}
+use Rattle.inc_text.specs.declared.languages.Language.{Language}
 use Rattle.inc_token.specs.TokenLines.{Tok, TokenLine}
 use Rattle.inc_directive.specs.LineKinds.{LineKind, Include, Other, line_kind, line_of_tokens}
 use Rattle.inc_directive.specs.declared.kinds.DirectiveKind.TheVariants.{Foreign}

@@ -11,8 +11,8 @@ ghost use Rattle.inc_directive.specs.LineKinds.{line_kind, line_of_tokens};
 ghost use Rattle.inc_directive.specs.Removal.{is_among, is_include, is_removed};
 
 use crate::kinds::{LineKind, classify};
-use inc_text::{Text, TextFault, flag_at, set_flag, splice};
-use inc_token::{Language, LexFault, Lines, Token, blank, lex};
+use inc_text::{Language, Text, TextFault, flag_at, set_flag, splice};
+use inc_token::{LexFault, Lines, Token, blank, lex};
 use std::alloc::{AllocError, Global};
 
 /// A source with each include directive blanked that begins on one of these physical lines. A source in which a comment is not closed
@@ -27,7 +27,7 @@ pub fn blank_includes(
     ensures { IfOk result (λ bytes. bytes.items
         ≡ blanked_source language (is_among remove.now) source.now) }
 {
-    match splice(alloc, source) {
+    match splice(alloc, source, language) {
         Ok(text) => blank_text(alloc, source, &text, language, remove),
         // The source is not too long.
         Err(TextFault::TooLong) => unreachable!(),
@@ -43,7 +43,7 @@ fn blank_text(
     language: Language,
     remove: &[u32],
 ) -> Result<Vec<u8>, AllocError>
-    requires { text.now ≡ phase_text source.now }
+    requires { text.now ≡ phase_text language source.now }
     ensures { IfOk result (λ bytes. bytes.items
         ≡ blanked_source language (is_among remove.now) source.now) }
 {
@@ -62,7 +62,7 @@ fn blank_directives(
     language: Language,
     remove: &[u32],
 ) -> Result<Vec<u8>, AllocError>
-    requires { token_lines language (phase_text source.now) ≡ Ok lines.now }
+    requires { token_lines language (phase_text language source.now) ≡ Ok lines.now }
     ensures { IfOk result (λ bytes. bytes.items
         ≡ blanked_lines (is_removed language (is_among remove.now)) lines.now source.now) }
 {

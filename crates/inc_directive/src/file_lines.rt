@@ -18,10 +18,10 @@ use crate::parts::{
     Inclusion, Part, Tag, is_blank, is_named, is_removable, is_text, kind_of, tag_of,
 };
 use crate::walks::DirectiveIter;
-use inc_text::Text;
+use inc_text::{Language, Text};
 use inc_token::{
-    Kind, Language, LexFault, LineSketch, Operand, Prefix, TextLines, TextRun, Token, lex_end,
-    lex_lines, lex_token, line_prefix, text_lines,
+    Kind, LexFault, LineSketch, Operand, Prefix, TextLines, TextRun, Token, lex_end, lex_lines,
+    lex_token, line_prefix, text_lines,
 };
 use std::alloc::{AllocError, Global};
 use std::marker::Model;

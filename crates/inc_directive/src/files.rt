@@ -8,8 +8,8 @@ ghost use Rattle.inc_token.specs.TokenLines.{token_lines};
 
 use crate::file_lines::FileLines;
 use crate::sections::{BalanceFault, check};
-use inc_text::Text;
-use inc_token::{Language, LexFault};
+use inc_text::{Language, Text};
+use inc_token::LexFault;
 use std::alloc::{AllocError, Global};
 use thiserror::Error;
 

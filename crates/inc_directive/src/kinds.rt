@@ -7,9 +7,8 @@ ghost use Rattle.inc_directive.specs.declared.kinds.DirectiveKind.TheVariants.{U
 ghost use Rattle.inc_directive.specs.LineKinds.{search_after, line_kind, other_kind, directive_kind, kind_of_name, named_kind, kind_in, named_kinds, extended_kinds, added_kinds, unnamed_kind, marker_kind, target_of, expanded_target, header_target, inner_bytes};
 ghost use Rattle.inc_directive.specs.KindViews.{seen_kind, seen_target};
 
-use inc_token::{
-    IncludeName, Kind, Language, Operand, Prefix, Token, include_name, is_hash, kind_of,
-};
+use inc_text::Language;
+use inc_token::{IncludeName, Kind, Operand, Prefix, Token, include_name, is_hash, kind_of};
 
 /// What an include directive names (ISO/IEC 9899:2018, 6.10.2).
 #[derive(Clone, Copy, Debug)]
@@ -247,9 +246,9 @@ fn gnu_kind(name: &[u8]) -> DirectiveKind
 
 /// The kind of a directive that may be a line marker, with a number in place of a name.
 fn marker_kind(name: &[u8]) -> DirectiveKind
-    ensures { result ≡ marker_kind (class_of name.now) }
+    ensures { result ≡ marker_kind (class_of Language.Gnu name.now) }
 {
-    match kind_of(name) {
+    match kind_of(Language::Gnu, name) {
         Some(Kind::Number) => DirectiveKind::Line,
         _ => DirectiveKind::Unknown,
     }

@@ -6,7 +6,7 @@ ghost use Rattle.std.specs.Option.{option_map_or};
 ghost use Rattle.inc_text.specs.PhaseText.{phase_text};
 ghost use Rattle.inc_token.specs.Prefixes.{prefix_of};
 ghost use Rattle.inc_token.specs.TokenLines.{Tok, TokenLine};
-ghost use Rattle.inc_token.specs.declared.kinds.Language.{Language};
+ghost use Rattle.inc_text.specs.declared.languages.Language.{Language};
 ghost use Rattle.inc_directive.specs.FileDirectives.{Directive, file_directives};
 ghost use Rattle.inc_directive.specs.Groups.{FileLine, Group, Link, role, file_lines, file_links, group_at, group_tree, lines_of, links};
 ghost use Rattle.inc_directive.specs.Jumps.{LeadsOn, Closes};
@@ -50,10 +50,10 @@ pub fn prefixes_give_the_kinds()
 /// The directives of a file are on line 1 or later ones, and each on a later line than the one before it.
 pub fn directives_ascend()
     ensures lines { (language : Language) (bytes : List ℕ) →
-        IfOk (file_directives language (phase_text bytes))
+        IfOk (file_directives language (phase_text language bytes))
         (All (λ (d : Directive). 1 ≤ d.line)) }
     ensures order { (language : Language) (bytes : List ℕ) →
-        IfOk (file_directives language (phase_text bytes))
+        IfOk (file_directives language (phase_text language bytes))
         (λ found. IsStrictlyIncreasing (map (λ (d : Directive). d.line) found)) }
 {}
 

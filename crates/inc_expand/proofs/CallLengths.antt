@@ -5,10 +5,12 @@ use Rattle.inc_macro.specs.Macros.{Params, parameter_names}
 use Rattle.inc_expand.specs.declared.carried.Carried.{Carried}
 use Rattle.inc_expand.specs.declared.faults.ExpandFault.{ExpandFault}
 use Rattle.inc_expand.specs.declared.faults.ExpandFault.TheVariants.{ArgumentCount}
+use Rattle.inc_expand.specs.declared.rules.Rule.{Rule}
+use Rattle.inc_expand.specs.declared.rules.Rule.TheVariants.{BySets, ByContexts}
 use Rattle.inc_expand.specs.Sets.{Sets}
 use Rattle.inc_expand.specs.Arguments.{ArgumentValue, argument_values}
 use Rattle.inc_expand.specs.Carriers.{carrier, carriers}
-use Rattle.inc_expand.specs.Expansion.{Argument, Call, Carrier, arguments, bound, call_behind, depth_after, filled_up, left_out, is_close, is_comma, onto_first, split_at_commas, unexpanded}
+use Rattle.inc_expand.specs.Expansion.{Argument, Call, Carrier, arguments, bound, call_behind, depth_after, filled_up, left_out, is_close, is_comma, onto_first, split_at_commas, unexpanded, Names, hidden_at, taken}
 use Rattle.inc_expand.specs.Frames.{steps_of}
 
 ---- a call
@@ -118,18 +120,23 @@ bound-total p inside args e =
     go true f n k j = let m = ap total_in f in omega (arith, m, n, k, j)
     go false f n k j = cc
 
+length-taken : (rule : Rule) (names : Names) (ts : List Carrier) → length (taken rule names ts) ≡ length ts
+length-taken BySets names ts = refl
+length-taken ByContexts names ts = length-map ts (λ (t : Carrier). record t { hidden = hidden_at ByContexts names t })
+
 -- a call after a name, and its arguments
-pub taken-steps : (s : Sets) (p : Params) (list more : List Carried) (args : List ArgumentValue)
+pub taken-steps : (rule : Rule) (s : Sets) (p : Params) (list more : List Carried) (args : List ArgumentValue)
     (inside : List Carrier) (close : Carrier) →
     call_behind 0 (drop 1 (carriers s list)) ≡ Some
-    (record { inside = inside; close = close; rest = carriers s more }) → bound p inside ≡ Ok (argument_values s args) →
+    (record { inside = inside; close = close; rest = carriers s more }) → bound p (taken rule close.hidden inside) ≡ Ok (argument_values s args) →
     length more + steps_of args ≤ length list
-taken-steps s p list more args inside close call taken =
+taken-steps rule s p list more args inside close call are =
     let c : Call = record { inside = inside; close = close; rest = carriers s more } in
     let n = call_length 0 (drop 1 (carriers s list)) c call in
-    let k = bound-total p inside (argument_values s args) taken in
+    let k = bound-total p (taken rule close.hidden inside) (argument_values s args) are in
+    let t = length-taken rule close.hidden inside in
     let j = steps-total s args in
     let a = length-map list (carrier s) in
     let b = length-map more (carrier s) in
     let d = length-drop 1 (carriers s list) in
-    omega (arith, n, k, j, a, b, d)
+    omega (arith, n, k, t, j, a, b, d)

@@ -4,12 +4,12 @@ use Rattle.std.proofs.lemmas.Option.{slice_get_within, get_or_from_slice_get}
 use Rattle.std.proofs.lemmas.List.{length-map, take_more, take_all}
 use Rattle.inc_token.proofs.Slices.{element_at}
 use Rattle.inc_macro.specs.declared.roles.Role.{Role}
-use Rattle.inc_macro.specs.declared.roles.Role.TheVariants.{Itself, Paste as PasteRole, Hash as HashRole, AsWritten as WrittenRole, Expanded as ExpandedRole, Comma as CommaRole, Nothing as NothingRole}
+use Rattle.inc_macro.specs.declared.roles.Role.TheVariants.{Itself, Paste as PasteRole, Hash as HashRole, AsWritten as WrittenRole, Expanded as ExpandedRole, Comma as CommaRole, Nothing as NothingRole, Optional as OptionalRole}
 use Rattle.inc_macro.specs.Macros.{BodyToken, Definition, Params, spellings}
 use Rattle.inc_macro.specs.Roles.{roles_of, roles_from, before_after, before_next, comma_at}
 use Rattle.inc_macro.specs.declared.roles.Before.{Before}
 use Rattle.inc_macro.specs.declared.roles.Before.TheVariants.{Neither}
-use Rattle.inc_expand.specs.Elements.{Element, Word, Glue, Silent, StringOf, AsWritten, Expanded, Comma, element, elements_from, elements_of, hash_of}
+use Rattle.inc_expand.specs.Elements.{Element, Word, Glue, Silent, StringOf, AsWritten, Expanded, Comma, Optional, Kept, Empty, Made, element, elements_from, elements_of, hash_of}
 use Rattle.inc_expand.specs.Expansion.{is_expanded_in}
 use Rattle.inc_expand.specs.ElementValues.{hash_in, hash_at, asks_for}
 use Rattle.inc_expand.proofs.CallSteps.{drop-at}
@@ -52,9 +52,12 @@ roles-length : (given : Option Params) (before : Before) (texts : List (List ℕ
 roles-length given before [] = refl
 roles-length given before (text ∷ texts) = ap suc (roles-length given (before_after (comma_at given (text ∷ texts)) (before_next given before text)) texts)
 
+pub roles-count : (d : Definition) → length (roles_of d) ≡ length d.body
+roles-count d = roles-length d.params Neither (spellings d.body) ∙ length-map d.body (λ (b : BodyToken). b.spelling)
+
 -- a body has a place for each token
 pub places-of : (d : Definition) → length (elements_of d) ≡ length d.body
-places-of d = elements-length None d.body (roles_of d) (sym (roles-length d.params Neither (spellings d.body) ∙ length-map d.body (λ (b : BodyToken). b.spelling)))
+places-of d = elements-length None d.body (roles_of d) (sym (roles-count d))
 
 -- the place at an index is before those after it
 pub place-at : (es : List Element) (i : ℕ) (e : Element) → slice_get es i ≡ Some e → drop i es ≡ e ∷ drop (i + 1) es
@@ -71,6 +74,11 @@ asks-is None b (WrittenRole m) n = refl
 asks-is (Some space) b (WrittenRole m) n = refl
 asks-is h b (CommaRole m) n = refl
 asks-is h b NothingRole n = refl
+asks-is h b (OptionalRole m) n = by (m == n)
+  where
+    by : (t : Bool) → (t || false) ≡ t
+    by true = refl
+    by false = refl
 asks-is h b (ExpandedRole m) n = by (m == n)
   where
     by : (t : Bool) → (t || false) ≡ t
@@ -84,6 +92,14 @@ expanded-first Silent es n = refl
 expanded-first (StringOf space m) es n = refl
 expanded-first (AsWritten space m) es n = refl
 expanded-first (Comma b m) es n = refl
+expanded-first (Kept space m) es n = refl
+expanded-first Empty es n = refl
+expanded-first (Made space text) es n = refl
+expanded-first (Optional hash m) es n = by (m == n)
+  where
+    by : (b : Bool) → (b || is_expanded_in es n) ≡ ((b || false) || is_expanded_in es n)
+    by true = refl
+    by false = refl
 expanded-first (Expanded space m) es n = by (m == n)
   where
     by : (b : Bool) → (b || is_expanded_in es n) ≡ ((b || false) || is_expanded_in es n)

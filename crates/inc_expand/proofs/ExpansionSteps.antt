@@ -8,8 +8,9 @@ use Rattle.inc_token.specs.declared.kinds.Kind.{Kind}
 use Rattle.inc_macro.specs.Macros.{Definition, Params, definition_of, is_identifier_kind}
 use Rattle.inc_expand.specs.declared.faults.ExpandFault.{ExpandFault}
 use Rattle.inc_expand.specs.declared.faults.ExpandFault.TheVariants.{OverBudget}
+use Rattle.inc_expand.specs.declared.rules.Rule.{Rule}
 use Rattle.inc_expand.specs.Elements.{Element, elements_of}
-use Rattle.inc_expand.specs.Expansion.{Expander, Carrier, Surroundings, Case, Passes, IsPredefined, IsObject, IsCall, Call, Argument, Content, Count, Fixed, Meter, union, only, intersection, replaced, treated, called, level, levels, case_of, call_behind, depth_after, is_close, taken_count, function_case, macro_case, name_case, is_asking, is_open, predefined, bound, expanded_arguments, expanded_argument, substituted, replacing, is_expanded_in, counted, spent, text_of}
+use Rattle.inc_expand.specs.Expansion.{Expander, Carrier, Surroundings, Case, Passes, IsPredefined, IsObject, IsCall, Call, Argument, Content, Count, Fixed, Meter, union, only, intersection, replaced, treated, called, level, levels, case_of, call_behind, depth_after, is_close, taken_count, function_case, macro_case, name_case, is_asking, is_open, predefined, bound, expanded_arguments, expanded_argument, substituted, replacing, is_expanded_in, counted, spent, text_of, taken, rule_in}
 
 -- a count costs nothing by itself
 pub counted-units : (content : Content) (meter : Meter) → (counted content meter).units ≡ meter.units
@@ -131,31 +132,31 @@ arguments_spend d es meter n (a ∷ as') h = first (expanded_argument d es meter
     first (Ok x) k r = rest x k (expanded_arguments d es x.1 (suc n) as') (r x.1)
     first (Err e) k r = tt
 
-called_agree : (d a b : Expander) (t : Carrier) (meter : Meter) (n : ℕ) (m : Definition) (p : Params) (c : Option Call) → SpendsOnly d → rest_length c ≤ n →
-    Agree a b (meter.units + suc n) → called d a t meter m p c ≡ called d b t meter m p c
+called_agree : (rule : Rule) (d a b : Expander) (t : Carrier) (meter : Meter) (n : ℕ) (m : Definition) (p : Params) (c : Option Call) → SpendsOnly d → rest_length c ≤ n →
+    Agree a b (meter.units + suc n) → called rule d a t meter m p c ≡ called rule d b t meter m p c
 unfolding Agree SpendsOnly rest_length
-called_agree d a b t meter n m p None h l k = refl
-called_agree d a b t meter n m p (Some c) h l k =
-    then_same (bound p c.inside) (λ args. ⊤) _ _ (always (bound p c.inside)) (λ args _.
+called_agree rule d a b t meter n m p None h l k = refl
+called_agree rule d a b t meter n m p (Some c) h l k =
+    then_same (bound p (taken rule c.close.hidden c.inside)) (λ args. ⊤) _ _ (always (bound p (taken rule c.close.hidden c.inside))) (λ args _.
     then_same (expanded_arguments d (elements_of m) meter 0 args) (λ e. e.1.units ≤ meter.units) _ _
     (arguments_spend d (elements_of m) meter 0 args h) (λ e spent_only.
-    then_same (substituted e.0 (elements_of m)) (λ new. ⊤) _ _ (always (substituted e.0 (elements_of m))) (λ new _.
-    replaced_agree a b e.1 (replacing t (union (only m.name) (intersection t.hidden c.close.hidden)) new) c.rest
+    then_same (substituted rule e.0 (elements_of m)) (λ new. ⊤) _ _ (always (substituted rule e.0 (elements_of m))) (λ new _.
+    replaced_agree a b e.1 (replacing rule t (union (only m.name) (intersection t.hidden c.close.hidden)) new) c.rest
     (λ u ts less. k u ts (omega arith)))))
 
-treated_agree : (d a b : Expander) (t : Carrier) (meter : Meter) (ts : List Carrier) (c : Case) → SpendsOnly d → Shorter ts c →
-    Agree a b (meter.units + suc (length ts)) → treated d a t meter ts c ≡ treated d b t meter ts c
+treated_agree : (rule : Rule) (d a b : Expander) (t : Carrier) (meter : Meter) (ts : List Carrier) (c : Case) → SpendsOnly d → Shorter ts c →
+    Agree a b (meter.units + suc (length ts)) → treated rule d a t meter ts c ≡ treated rule d b t meter ts c
 unfolding Agree Shorter rest_length
-treated_agree d a b t meter ts (Passes front rest) h l k = ap (λ r. r >>= (λ x. Ok (front ++ x.0, x.1))) (k meter rest (omega arith))
-treated_agree d a b t meter ts (IsPredefined kind content) h l k =
+treated_agree rule d a b t meter ts (Passes front rest) h l k = ap (λ r. r >>= (λ x. Ok (front ++ x.0, x.1))) (k meter rest (omega arith))
+treated_agree rule d a b t meter ts (IsPredefined kind content) h l k =
     replaced_agree a b (counted content meter)
     (record t { kind = kind; spelling = text_of meter content; hidden = union (only t.spelling) t.hidden } ∷ []) ts
     (λ u us less. k u us (omega (arith, counted-units content meter, less)))
-treated_agree d a b t meter ts (IsObject m) h l k =
-    then_same (substituted [] (elements_of m)) (λ new. ⊤) _ _ (always (substituted [] (elements_of m)))
-    (λ new _. replaced_agree a b meter (replacing t (union (only m.name) t.hidden) new) ts k)
-treated_agree d a b t meter ts (IsCall m p behind) h l k =
-    called_agree d a b t meter (length ts) m p (call_behind 0 behind) h (short (call_behind 0 behind) refl) k
+treated_agree rule d a b t meter ts (IsObject m) h l k =
+    then_same (substituted rule [] (elements_of m)) (λ new. ⊤) _ _ (always (substituted rule [] (elements_of m)))
+    (λ new _. replaced_agree a b meter (replacing rule t (union (only m.name) t.hidden) new) ts k)
+treated_agree rule d a b t meter ts (IsCall m p behind) h l k =
+    called_agree rule d a b t meter (length ts) m p (call_behind 0 behind) h (short (call_behind 0 behind) refl) k
   where
     short : (c : Option Call) → call_behind 0 behind ≡ c → rest_length c ≤ length ts
     short None e = omega arith
@@ -169,7 +170,7 @@ enough_steps s d h zero m meter ts l k = absurd (omega arith)
 enough_steps s d h (suc n) zero meter ts l k = absurd (omega arith)
 enough_steps s d h (suc n) (suc m) meter [] l k = refl
 enough_steps s d h (suc n) (suc m) meter (t ∷ ts) l k =
-    treated_agree d (level s d n) (level s d m) t meter ts (case_of s t ts) h (case_shorter s t ts)
+    treated_agree (rule_in s) d (level s d n) (level s d m) t meter ts (case_of s t ts) h (case_shorter s t ts)
     (λ u us less. enough_steps s d h n m u us (omega arith) (omega arith))
 
 ---- what is left
@@ -192,37 +193,37 @@ replaced_spends again h meter new rest = go (nat_lt meter.units (1 + length new)
     go true = tt
     go false = weaker (again (spent (1 + length new) meter) (new ++ rest)) _ meter.units (omega arith) (h (spent (1 + length new) meter) (new ++ rest))
 
-called_spends : (d again : Expander) → SpendsOnly d → SpendsOnly again → (t : Carrier) (meter : Meter) (m : Definition) (p : Params) (c : Option Call) →
-    IfOk (called d again t meter m p c) (λ y. y.1.units ≤ meter.units)
-called_spends d again h k t meter m p None = tt
-called_spends d again h k t meter m p (Some c) =
-    then_spends (bound p c.inside) (λ args. ⊤) _ meter.units (always (bound p c.inside)) (λ args _.
+called_spends : (rule : Rule) (d again : Expander) → SpendsOnly d → SpendsOnly again → (t : Carrier) (meter : Meter) (m : Definition) (p : Params) (c : Option Call) →
+    IfOk (called rule d again t meter m p c) (λ y. y.1.units ≤ meter.units)
+called_spends rule d again h k t meter m p None = tt
+called_spends rule d again h k t meter m p (Some c) =
+    then_spends (bound p (taken rule c.close.hidden c.inside)) (λ args. ⊤) _ meter.units (always (bound p (taken rule c.close.hidden c.inside))) (λ args _.
     then_spends (expanded_arguments d (elements_of m) meter 0 args) (λ e. e.1.units ≤ meter.units) _ meter.units (arguments_spend d (elements_of m) meter 0 args h) (λ e spent_only.
-    then_spends (substituted e.0 (elements_of m)) (λ new. ⊤) _ meter.units (always (substituted e.0 (elements_of m))) (λ new _.
-    weaker (replaced again e.1 (replacing t (union (only m.name) (intersection t.hidden c.close.hidden)) new) c.rest) e.1.units meter.units spent_only
-    (replaced_spends again k e.1 (replacing t (union (only m.name) (intersection t.hidden c.close.hidden)) new) c.rest))))
+    then_spends (substituted rule e.0 (elements_of m)) (λ new. ⊤) _ meter.units (always (substituted rule e.0 (elements_of m))) (λ new _.
+    weaker (replaced again e.1 (replacing rule t (union (only m.name) (intersection t.hidden c.close.hidden)) new) c.rest) e.1.units meter.units spent_only
+    (replaced_spends again k e.1 (replacing rule t (union (only m.name) (intersection t.hidden c.close.hidden)) new) c.rest))))
 
-treated_spends : (d again : Expander) → SpendsOnly d → SpendsOnly again → (t : Carrier) (meter : Meter) (ts : List Carrier) (c : Case) →
-    IfOk (treated d again t meter ts c) (λ y. y.1.units ≤ meter.units)
+treated_spends : (rule : Rule) (d again : Expander) → SpendsOnly d → SpendsOnly again → (t : Carrier) (meter : Meter) (ts : List Carrier) (c : Case) →
+    IfOk (treated rule d again t meter ts c) (λ y. y.1.units ≤ meter.units)
 unfolding SpendsOnly
-treated_spends d again h k t meter ts (Passes front rest) =
+treated_spends rule d again h k t meter ts (Passes front rest) =
     then_spends (again meter rest) (λ r. r.1.units ≤ meter.units) _ meter.units (k meter rest) (λ r l. l)
-treated_spends d again h k t meter ts (IsPredefined kind content) =
+treated_spends rule d again h k t meter ts (IsPredefined kind content) =
     weaker (replaced again (counted content meter)
     (record t { kind = kind; spelling = text_of meter content; hidden = union (only t.spelling) t.hidden } ∷ []) ts)
     (counted content meter).units meter.units (omega (arith, counted-units content meter))
     (replaced_spends again k (counted content meter)
     (record t { kind = kind; spelling = text_of meter content; hidden = union (only t.spelling) t.hidden } ∷ []) ts)
-treated_spends d again h k t meter ts (IsObject m) =
-    then_spends (substituted [] (elements_of m)) (λ new. ⊤) _ meter.units (always (substituted [] (elements_of m)))
-    (λ new _. replaced_spends again k meter (replacing t (union (only m.name) t.hidden) new) ts)
-treated_spends d again h k t meter ts (IsCall m p behind) = called_spends d again h k t meter m p (call_behind 0 behind)
+treated_spends rule d again h k t meter ts (IsObject m) =
+    then_spends (substituted rule [] (elements_of m)) (λ new. ⊤) _ meter.units (always (substituted rule [] (elements_of m)))
+    (λ new _. replaced_spends again k meter (replacing rule t (union (only m.name) t.hidden) new) ts)
+treated_spends rule d again h k t meter ts (IsCall m p behind) = called_spends rule d again h k t meter m p (call_behind 0 behind)
 
 level_spends : (s : Surroundings) (d : Expander) → SpendsOnly d → (steps : ℕ) → SpendsOnly (level s d steps)
 unfolding SpendsOnly
 level_spends s d h zero meter ts = tt
 level_spends s d h (suc steps) meter [] = omega arith
-level_spends s d h (suc steps) meter (t ∷ ts) = treated_spends d (level s d steps) h (level_spends s d h steps) t meter ts (case_of s t ts)
+level_spends s d h (suc steps) meter (t ∷ ts) = treated_spends (rule_in s) d (level s d steps) h (level_spends s d h steps) t meter ts (case_of s t ts)
 
 pub levels_spend : (s : Surroundings) (n : ℕ) → SpendsOnly (levels s n)
 unfolding SpendsOnly
@@ -232,12 +233,12 @@ levels_spend s (suc n) meter ts = level_spends s (levels s n) (levels_spend s n)
 ---- one step of a list, whatever the steps that are left
 
 pub one_step : (s : Surroundings) (n : ℕ) (meter : Meter) (t : Carrier) (ts : List Carrier) →
-    levels s (suc n) meter (t ∷ ts) ≡ treated (levels s n) (levels s (suc n)) t meter ts (case_of s t ts)
+    levels s (suc n) meter (t ∷ ts) ≡ treated (rule_in s) (levels s n) (levels s (suc n)) t meter ts (case_of s t ts)
 unfolding Agree
 one_step s n meter t ts =
     let e : length (t ∷ ts) + meter.units + 1 ≡ suc (length ts + meter.units + 1) = omega arith in
     ap (λ m. level s (levels s n) m meter (t ∷ ts)) e
-    ∙ treated_agree (levels s n) (level s (levels s n) (length ts + meter.units + 1)) (levels s (suc n)) t meter ts (case_of s t ts) (levels_spend s n) (case_shorter s t ts)
+    ∙ treated_agree (rule_in s) (levels s n) (level s (levels s n) (length ts + meter.units + 1)) (levels s (suc n)) t meter ts (case_of s t ts) (levels_spend s n) (case_shorter s t ts)
     (λ u us less. enough_steps s (levels s n) (levels_spend s n) (length ts + meter.units + 1) (length us + u.units + 1) u us (omega arith) (omega arith))
 
 pub no_step : (s : Surroundings) (n : ℕ) (meter : Meter) → levels s (suc n) meter [] ≡ Ok ([], meter)
@@ -276,7 +277,7 @@ pub plain-levels : (s : Surroundings) (n m : ℕ) (meter : Meter) (ts : List Car
 plain-levels s n zero meter ts l h = absurd (omega arith)
 plain-levels s n (suc m) meter [] l h = no_step s n meter
 plain-levels s n (suc m) meter (t ∷ ts) l h =
-    one_step s n meter t ts ∙ ap (treated (levels s n) (levels s (suc n)) t meter ts) (plain-case s t ts h.0).1
+    one_step s n meter t ts ∙ ap (treated (rule_in s) (levels s n) (levels s (suc n)) t meter ts) (plain-case s t ts h.0).1
     ∙ ap (λ r. r >>= put) (plain-levels s n m meter (drop k ts) (omega (arith, length-drop k ts)) (plain-drop s k ts h.1))
     ∙ ap (λ us. Ok (t ∷ us, meter)) (take-append-drop k ts)
   where

@@ -15,7 +15,7 @@ use Rattle.inc_expand.specs.declared.frames.Level.{Level}
 use Rattle.inc_expand.specs.declared.walks.Work.{Work}
 use Rattle.inc_expand.specs.Sets.{Sets, size, Keeps}
 use Rattle.inc_expand.specs.Elements.{elements_of}
-use Rattle.inc_expand.specs.Expansion.{Argument, Call as CallOf, Carrier, IsCall, Names, Surroundings, Meter, all_levels, argument_at, bound, call_behind, called, case_of, expanded_arguments, intersection, is_expanded_in, levels, unexpanded}
+use Rattle.inc_expand.specs.Expansion.{Argument, Call as CallOf, Carrier, IsCall, Names, Surroundings, Meter, all_levels, argument_at, bound, call_behind, called, case_of, expanded_arguments, intersection, is_expanded_in, levels, unexpanded, rule_in, taken}
 use Rattle.inc_expand.specs.Carriers.{carrier, carriers, AreKnown}
 use Rattle.inc_expand.specs.Arguments.{ArgumentValue, argument_value, argument_values, AreKnownIn}
 use Rattle.inc_expand.specs.Frames.{answer, behind_arguments, call_result, call_with, going_on, hidden_by_call, level_result, resumed, steps_of, unwound, with_front, AreFrames, ArePassedOn, IsCallReplaced, IsCallRefused, IsFrame, IsGone, IsKnownCall, IsKnownLevel, IsNoted, IsTurn}
@@ -126,7 +126,7 @@ opened-at s deeper d t hidden meter i args rest l wanted =
     ap (λ as'. after meter i (take i args) as') (drop-at args i (unexpanded []) l)
     ∙ ap (λ b. behind_arguments (take i args) (by b >>= (λ e. expanded_arguments (levels s deeper) (elements_of d) e.1
     (suc i) (drop (i + 1) args) >>= (λ r. Ok (e.0 ∷ r.0, r.1))))
-    >>= (λ x. replacement (levels s (suc deeper)) d x.0 t hidden x.1 rest)) wanted
+    >>= (λ x. replacement (rule_in s) (levels s (suc deeper)) d x.0 t hidden x.1 rest)) wanted
     ∙ go (levels s deeper meter a.written)
   where
     a : Argument
@@ -134,7 +134,7 @@ opened-at s deeper d t hidden meter i args rest l wanted =
 
     after : Meter → ℕ → List Argument → List Argument → Given
     after u n front as' = behind_arguments front (expanded_arguments (levels s deeper) (elements_of d) u n as') >>=
-        (λ x. replacement (levels s (suc deeper)) d x.0 t hidden x.1 rest)
+        (λ x. replacement (rule_in s) (levels s (suc deeper)) d x.0 t hidden x.1 rest)
 
     by : Bool → Result (Argument × Meter) ExpandFault
     by b = elim b as (λ _. Result (Argument × Meter) ExpandFault) [
@@ -150,11 +150,11 @@ opened-at s deeper d t hidden meter i args rest l wanted =
         (behind_arguments (take i args) ((r >>= (λ e. Ok (record a { expanded = e.0 }, e.1)))
         >>= (λ (e : Argument × Meter). expanded_arguments (levels s deeper) (elements_of d) e.1 (suc i)
         (drop (i + 1) args) >>= (λ r. Ok (e.0 ∷ r.0, r.1))))
-        >>= (λ x. replacement (levels s (suc deeper)) d x.0 t hidden x.1 rest))
+        >>= (λ x. replacement (rule_in s) (levels s (suc deeper)) d x.0 t hidden x.1 rest))
         ≡ (r >>= (λ e. going_on s deeper d t hidden e.1 (suc i) (set args i (record a { expanded = e.0 })) rest))
     go (Err fault) = refl
     go (Ok e) =
-        ap (λ r. r >>= (λ x. replacement (levels s (suc deeper)) d x.0 t hidden x.1 rest))
+        ap (λ r. r >>= (λ x. replacement (rule_in s) (levels s (suc deeper)) d x.0 t hidden x.1 rest))
         (behind_arguments-both (take i args) (record a { expanded = e.0 } ∷ [])
         (expanded_arguments (levels s deeper) (elements_of d) e.1 (suc i) (drop (i + 1) args)))
         ∙ ap₂ (λ (front more : List Argument). after e.1 (suc i) front more)
@@ -172,8 +172,8 @@ skipped-at s deeper d t hidden meter i args rest l wanted =
     ap (λ as'. after i (take i args) as') (drop-at args i (unexpanded []) l)
     ∙ ap (λ b. behind_arguments (take i args) (by b >>= (λ e. expanded_arguments (levels s deeper) (elements_of d) e.1
     (suc i) (drop (i + 1) args) >>= (λ r. Ok (e.0 ∷ r.0, r.1))))
-    >>= (λ x. replacement (levels s (suc deeper)) d x.0 t hidden x.1 rest)) wanted
-    ∙ ap (λ r. r >>= (λ x. replacement (levels s (suc deeper)) d x.0 t hidden x.1 rest))
+    >>= (λ x. replacement (rule_in s) (levels s (suc deeper)) d x.0 t hidden x.1 rest)) wanted
+    ∙ ap (λ r. r >>= (λ x. replacement (rule_in s) (levels s (suc deeper)) d x.0 t hidden x.1 rest))
     (behind_arguments-both (take i args) (a ∷ []) (expanded_arguments (levels s deeper) (elements_of d) meter (suc i)
     (drop (i + 1) args)))
     ∙ ap₂ (λ (n : ℕ) (front : List Argument). after n front (drop (i + 1) args)) next (front-is)
@@ -183,7 +183,7 @@ skipped-at s deeper d t hidden meter i args rest l wanted =
 
     after : ℕ → List Argument → List Argument → Given
     after n front as' = behind_arguments front (expanded_arguments (levels s deeper) (elements_of d) meter n as') >>=
-        (λ x. replacement (levels s (suc deeper)) d x.0 t hidden x.1 rest)
+        (λ x. replacement (rule_in s) (levels s (suc deeper)) d x.0 t hidden x.1 rest)
 
     by : Bool → Result (Argument × Meter) ExpandFault
     by b = elim b as (λ _. Result (Argument × Meter) ExpandFault) [
@@ -201,26 +201,26 @@ skipped-at s deeper d t hidden meter i args rest l wanted =
 -- none is left
 ended-at : (s : Surroundings) (deeper : ℕ) (d : Definition) (t : Carrier) (hidden : Names) (meter : Meter) (i : ℕ)
     (args : List Argument) (rest : List Carrier) →
-    length args ≤ i → going_on s deeper d t hidden meter i args rest ≡ replacement
+    length args ≤ i → going_on s deeper d t hidden meter i args rest ≡ replacement (rule_in s)
     (levels s (suc deeper)) d args t hidden meter rest
 ended-at s deeper d t hidden meter i args rest l =
     ap₂ (λ (front more : List Argument). behind_arguments front
     (expanded_arguments (levels s deeper) (elements_of d) meter i more) >>=
-    (λ x. replacement (levels s (suc deeper)) d x.0 t hidden x.1 rest))
+    (λ x. replacement (rule_in s) (levels s (suc deeper)) d x.0 t hidden x.1 rest))
     (take_all i args l) (drop_all i args l)
-    ∙ ap (λ as'. replacement (levels s (suc deeper)) d as' t hidden meter rest) (append-nil args)
+    ∙ ap (λ as'. replacement (rule_in s) (levels s (suc deeper)) d as' t hidden meter rest) (append-nil args)
 
 -- all are left
 pub begun-at : (s : Surroundings) (deeper : ℕ) (d : Definition) (t : Carrier) (hidden : Names) (meter : Meter)
     (args : List Argument) (rest : List Carrier) →
     (expanded_arguments (levels s deeper) (elements_of d) meter 0 args >>=
-    (λ x. replacement (levels s (suc deeper)) d x.0 t hidden x.1 rest))
+    (λ x. replacement (rule_in s) (levels s (suc deeper)) d x.0 t hidden x.1 rest))
     ≡ going_on s deeper d t hidden meter 0 args rest
 begun-at s deeper d t hidden meter args rest = by (expanded_arguments (levels s deeper) (elements_of d) meter 0 args)
   where
     by : (r : Result (List Argument × Meter) ExpandFault) →
-        (r >>= (λ x. replacement (levels s (suc deeper)) d x.0 t hidden x.1 rest)) ≡
-        (behind_arguments [] r >>= (λ x. replacement (levels s (suc deeper)) d x.0 t hidden x.1 rest))
+        (r >>= (λ x. replacement (rule_in s) (levels s (suc deeper)) d x.0 t hidden x.1 rest)) ≡
+        (behind_arguments [] r >>= (λ x. replacement (rule_in s) (levels s (suc deeper)) d x.0 t hidden x.1 rest))
     by (Ok x) = refl
     by (Err fault) = refl
 
@@ -387,7 +387,7 @@ module _ (s : Surroundings) (old : Work) (fs : List Frame) (c : Call) (i : ℕ) 
   -- it is replaced
   ends : length c.args ≤ i →
       call_result s old.sets old.meter i c l
-      ≡ behind (carriers old.sets l.out.items) (replacement (levels s (suc l.deeper)) c.macro_.now
+      ≡ behind (carriers old.sets l.out.items) (replacement (rule_in s) (levels s (suc l.deeper)) c.macro_.now
       (argument_values old.sets c.args) (carrier old.sets c.name) (hidden_by_call old.sets c) old.meter
       (carriers old.sets l.list))
   ends w =
@@ -398,7 +398,7 @@ module _ (s : Surroundings) (old : Work) (fs : List Frame) (c : Call) (i : ℕ) 
 
   pub gone-replaced : (new : Work) (m : Level) → length c.args ≤ i → AreFrames (size old.sets) fs → IsKnownLevel
       (size old.sets) l → m.deeper ≡ l.deeper → m.out.items ≡ l.out.items →
-      IsCallReplaced c old new l.list m.list → IsGone s old fs c i l new fs m
+      IsCallReplaced (rule_in s) c old new l.list m.list → IsGone s old fs c i l new fs m
   gone-replaced new m w frames level deeper-is out-is r = record {
     keeps = r.keeps;
     frames = frames-wider (size old.sets) (size new.sets) r.keeps.more fs frames;
@@ -417,7 +417,7 @@ module _ (s : Surroundings) (old : Work) (fs : List Frame) (c : Call) (i : ℕ) 
     fewer = let n = r.smaller in omega (arith, n);
   }
 
-  pub gone-refused : (fault : ExpandFault) → length c.args ≤ i → IsCallRefused c old l.list fault →
+  pub gone-refused : (fault : ExpandFault) → length c.args ≤ i → IsCallRefused (rule_in s) c old l.list fault →
       unwound s old.sets fs (call_result s old.sets old.meter i c l) ≡ Err fault
   gone-refused fault w h =
       ap (unwound s old.sets fs) (ends w ∙ ap (behind (carriers old.sets l.out.items)) (h (levels s (suc l.deeper))))
@@ -470,16 +470,16 @@ module _ (s : Surroundings) (old : Work) (fs : List Frame) where
       (drop 1 (carriers old.sets l.list)))
       (call : call_behind 0 (drop 1 (carriers old.sets l.list)) ≡ Some
       (record { inside = inside; close = carrier old.sets c.close; rest = carriers old.sets more }))
-      (taken : bound p inside ≡ Ok (argument_values old.sets c.args)) where
+      (are : bound p (taken (rule_in s) (carrier old.sets c.close).hidden inside) ≡ Ok (argument_values old.sets c.args)) where
     begins : level_result s old.sets old.meter (with_front c.name l) ≡ call_result s old.sets old.meter 0 c
         (record l { list = more })
     begins =
         ap (behind (carriers old.sets l.out.items))
         (stepped s l.deeper c.name old l.list _ case-is
-        ∙ after-taken (levels s l.deeper) (levels s (suc l.deeper)) c.macro_.now p (carrier old.sets c.name) old.meter
+        ∙ after-taken (rule_in s) (levels s l.deeper) (levels s (suc l.deeper)) c.macro_.now p (carrier old.sets c.name) old.meter
         (drop 1 (carriers old.sets l.list)) (argument_values old.sets c.args)
-        (carrier old.sets c.close) (carriers old.sets more) (taken-with p (drop 1 (carriers old.sets l.list)) inside
-        (carrier old.sets c.close) (carriers old.sets more) call taken)
+        (carrier old.sets c.close) (carriers old.sets more) (taken-with (rule_in s) p (drop 1 (carriers old.sets l.list)) inside
+        (carrier old.sets c.close) (carriers old.sets more) call are)
         ∙ begun-at s l.deeper c.macro_.now (carrier old.sets c.name) (hidden_by_call old.sets c) old.meter
         (argument_values old.sets c.args) (carriers old.sets more))
 
@@ -490,8 +490,8 @@ module _ (s : Surroundings) (old : Work) (fs : List Frame) where
       frames = g.frames;
       level = g.level;
       same = ap (unwound s old.sets fs) begins ∙ g.same;
-      fewer = let n = g.fewer in let k = taken-steps old.sets p l.list more c.args inside
-          (carrier old.sets c.close) call taken in omega (arith, n, k);
+      fewer = let n = g.fewer in let k = taken-steps (rule_in s) old.sets p l.list more c.args inside
+          (carrier old.sets c.close) call are in omega (arith, n, k);
     }
 
     pub begun-fault : (fault : ExpandFault) → unwound s old.sets fs
@@ -507,16 +507,16 @@ module _ (s : Surroundings) (old : Work) (fs : List Frame) where
         (drop 1 (carriers old.sets l.list)) ≡ None → answer s old.sets old.meter fs (with_front t l) ≡ Err fault
     unclosed-fault fault e none =
         turn-fault l t fault
-        (stepped s l.deeper t old l.list _ case-is ∙ ap (called (levels s l.deeper) (levels s (suc l.deeper))
+        (stepped s l.deeper t old l.list _ case-is ∙ ap (called (rule_in s) (levels s l.deeper) (levels s (suc l.deeper))
         (carrier old.sets t) old.meter d p) none ∙ ap Err (sym e))
 
     pub unbound-fault : (c : CallOf) → call_behind 0 (drop 1 (carriers old.sets l.list)) ≡ Some c →
-        (fault : ExpandFault) → bound p c.inside ≡ Err fault →
+        (fault : ExpandFault) → bound p (taken (rule_in s) c.close.hidden c.inside) ≡ Err fault →
         answer s old.sets old.meter fs (with_front t l) ≡ Err fault
     unbound-fault c call fault e =
         turn-fault l t fault
         (stepped s l.deeper t old l.list _ case-is
-        ∙ refused-bound (levels s l.deeper) (levels s (suc l.deeper)) (carrier old.sets t) old.meter d p
+        ∙ refused-bound (rule_in s) (levels s l.deeper) (levels s (suc l.deeper)) (carrier old.sets t) old.meter d p
         (call_behind 0 (drop 1 (carriers old.sets l.list))) c call fault e)
 
   -- at the end of an argument

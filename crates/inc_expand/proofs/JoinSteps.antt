@@ -1,5 +1,5 @@
 -- A walk over the parts of a replacement, part by part.
-use Rattle.std.proofs.Common.{◌≡◌, ℕ, zero, suc, ◌+◌, ◌<◌, ◌≤◌, Bool, true, false, ◌&&◌, List, [], ◌∷◌, ◌++◌, map, length, Option, Some, None, Result, Ok, Err, IfSome, option_map, option_to_list, refl, sym, ap, ap₂, subst, ◌∙◌, arith, append_assoc, take, drop, get_or}
+use Rattle.std.proofs.Common.{◌≡◌, ℕ, zero, suc, ◌+◌, ◌<◌, ◌≤◌, Bool, true, false, List, [], ◌∷◌, ◌++◌, map, length, Option, Some, None, Result, Ok, Err, IfSome, option_map, option_to_list, refl, sym, ap, ap₂, subst, ◌∙◌, arith, append_assoc, take, drop, get_or}
 use Rattle.std.proofs.Math.Path.{fun_ext}
 use Rattle.std.proofs.lemmas.List.{append-nil, map-append, take-append-drop, drop_all}
 use Rattle.inc_macro.specs.Results.{◌>>=◌}
@@ -8,8 +8,9 @@ use Rattle.inc_expand.specs.declared.carried.Carried.{Carried}
 use Rattle.inc_expand.specs.declared.faults.ExpandFault.{ExpandFault}
 use Rattle.inc_expand.specs.declared.pastes.LeftSide.TheVariants.{Made}
 use Rattle.inc_expand.specs.declared.pastes.Segment.{Segment}
+use Rattle.inc_expand.specs.declared.rules.Rule.{Rule}
 use Rattle.inc_expand.specs.Sets.{Sets, size, holds, Keeps}
-use Rattle.inc_expand.specs.Expansion.{Carrier, Names, Part, Piece, as_part, operand, spaced, pasted, paste_from, tokens_of, made_kind, intersection}
+use Rattle.inc_expand.specs.Expansion.{Carrier, Names, Part, Piece, as_part, operand, spaced, pasted, paste_from, tokens_of, made_kind, hidden_by_paste}
 use Rattle.inc_expand.specs.Carriers.{carrier, carriers, AreKnown}
 use Rattle.inc_expand.specs.Joins.{segment_tokens, tokens_in, before_of, put_before, IsOpened}
 use Rattle.inc_expand.proofs.CallSteps.{known-append, drop-at}
@@ -65,107 +66,110 @@ settled-known n old new last e h k = subst (AreKnown n) (sym e) (known-append n 
 
 ---- one `##`
 
-pub pasted-made : (s u : Sets) (text : List ℕ) (before : Option Carrier) (p : ℕ × Bool) (b : Carrier) (kind : Kind) (set : ℕ) (new : List ℕ) →
+pub pasted-made : (rule : Rule) (s u : Sets) (text : List ℕ) (before : Option Carrier) (p : ℕ × Bool) (b : Carrier) (kind : Kind) (set : ℕ) (new : List ℕ) →
     IsOpened s text before (Some p) → made_kind (text ++ b.spelling) ≡ Ok kind → new ≡ text ++ b.spelling →
-    ((n : List ℕ) → holds u set n ≡ (holds s p.0 n && b.hidden n)) →
-    pasted before (Some b) ≡ Ok (before_of u new (Made set kind p.1))
-pasted-made s u text None p b kind set new o m e h = absurd o
-pasted-made s u text (Some a) p b kind set new o m e h =
+    ((n : List ℕ) → holds u set n ≡ hidden_by_paste rule (holds s p.0) b.hidden n) →
+    pasted rule before (Some b) ≡ Ok (before_of u new (Made set kind p.1))
+pasted-made rule s u text None p b kind set new o m e h = absurd o
+pasted-made rule s u text (Some a) p b kind set new o m e h =
     ap (λ t. (made_kind (t ++ b.spelling) >>= token t) >>= some) o.0 ∙ ap (λ r. (r >>= token text) >>= some) m
     ∙ ap₂ (λ (sp : Bool) (hid : Names). Ok (Some (record { kind = kind; spelling = text ++ b.spelling; line = 0; space = sp; hidden = hid }))) o.1.0
-    (ap (λ x. intersection x b.hidden) o.1.1 ∙ fun_ext (λ n. sym (h n)))
+    (ap (λ x. hidden_by_paste rule x b.hidden) o.1.1 ∙ fun_ext (λ n. sym (h n)))
     ∙ ap (λ t. Ok (Some (record { kind = kind; spelling = t; line = 0; space = p.1; hidden = holds u set }))) (sym e)
   where
     token : List ℕ → Kind → Result Carrier ExpandFault
-    token t k = Ok (record { kind = k; spelling = t ++ b.spelling; line = 0; space = a.space; hidden = intersection a.hidden b.hidden })
+    token t k = Ok (record { kind = k; spelling = t ++ b.spelling; line = 0; space = a.space; hidden = hidden_by_paste rule a.hidden b.hidden })
 
     some : Carrier → Result (Option Carrier) ExpandFault
     some t = Ok (Some t)
 
-pub pasted-fault : (s : Sets) (text : List ℕ) (before : Option Carrier) (p : ℕ × Bool) (b : Carrier) (fault : ExpandFault) →
-    IsOpened s text before (Some p) → made_kind (text ++ b.spelling) ≡ Err fault → pasted before (Some b) ≡ Err fault
-pasted-fault s text None p b fault o m = absurd o
-pasted-fault s text (Some a) p b fault o m =
+pub pasted-fault : (rule : Rule) (s : Sets) (text : List ℕ) (before : Option Carrier) (p : ℕ × Bool) (b : Carrier) (fault : ExpandFault) →
+    IsOpened s text before (Some p) → made_kind (text ++ b.spelling) ≡ Err fault → pasted rule before (Some b) ≡ Err fault
+pasted-fault rule s text None p b fault o m = absurd o
+pasted-fault rule s text (Some a) p b fault o m =
     ap (λ t. (made_kind (t ++ b.spelling) >>= token t) >>= some) o.0 ∙ ap (λ r. (r >>= token text) >>= some) m
   where
     token : List ℕ → Kind → Result Carrier ExpandFault
-    token t k = Ok (record { kind = k; spelling = t ++ b.spelling; line = 0; space = a.space; hidden = intersection a.hidden b.hidden })
+    token t k = Ok (record { kind = k; spelling = t ++ b.spelling; line = 0; space = a.space; hidden = hidden_by_paste rule a.hidden b.hidden })
 
     some : Carrier → Result (Option Carrier) ExpandFault
     some t = Ok (Some t)
 
-pub pasted-nothing : (s : Sets) (text : List ℕ) (before : Option Carrier) (b : Carrier) → IsOpened s text before None → pasted before (Some b) ≡ Ok (Some b)
-pasted-nothing s text None b o = refl
-pasted-nothing s text (Some a) b o = absurd o
+pub pasted-nothing : (rule : Rule) (s : Sets) (text : List ℕ) (before : Option Carrier) (b : Carrier) → IsOpened s text before None → pasted rule before (Some b) ≡ Ok (Some b)
+pasted-nothing rule s text None b o = refl
+pasted-nothing rule s text (Some a) b o = absurd o
 
 ---- parts
 
 -- a part that is settled first
-pub passed-plain : (front new : List Carrier) (before q : Option Carrier) (parts : List Part) → new ≡ front ++ tokens_of before →
-    put_before new (paste_from false q parts) ≡ put_before front (paste_from false before (Piece q ∷ parts))
-passed-plain front new before q parts e = ap (λ ts. put_before ts (paste_from false q parts)) e ∙ by (paste_from false q parts)
+pub passed-plain : (rule : Rule) (front new : List Carrier) (before q : Option Carrier) (parts : List Part) → new ≡ front ++ tokens_of before →
+    put_before new (paste_from rule false q parts) ≡ put_before front (paste_from rule false before (Piece q ∷ parts))
+passed-plain rule front new before q parts e = ap (λ ts. put_before ts (paste_from rule false q parts)) e ∙ by (paste_from rule false q parts)
   where
     by : (r : Result (List Carrier) ExpandFault) → put_before (front ++ tokens_of before) r ≡ put_before front (r >>= (λ ts. Ok (tokens_of before ++ ts)))
     by (Ok ts) = ap Ok (append_assoc front (tokens_of before) ts)
     by (Err fault) = refl
 
 -- a part that is joined
-pub passed-joined : (front new : List Carrier) (before q after : Option Carrier) (parts : List Part) → new ≡ front → pasted before q ≡ Ok after →
-    put_before new (paste_from false after parts) ≡ put_before front (paste_from true before (Piece q ∷ parts))
-passed-joined front new before q after parts e p =
-    ap (λ ts. put_before ts (paste_from false after parts)) e ∙ ap (λ r. put_before front (r >>= (λ x. paste_from false x parts))) (sym p)
+pub passed-joined : (rule : Rule) (front new : List Carrier) (before q after : Option Carrier) (parts : List Part) → new ≡ front → pasted rule before q ≡ Ok after →
+    put_before new (paste_from rule false after parts) ≡ put_before front (paste_from rule true before (Piece q ∷ parts))
+passed-joined rule front new before q after parts e p =
+    ap (λ ts. put_before ts (paste_from rule false after parts)) e ∙ ap (λ r. put_before front (r >>= (λ x. paste_from rule false x parts))) (sym p)
 
-pub joined-fault : (front : List Carrier) (before q : Option Carrier) (parts : List Part) (fault : ExpandFault) → pasted before q ≡ Err fault →
-    put_before front (paste_from true before (Piece q ∷ parts)) ≡ Err fault
-joined-fault front before q parts fault p = ap (λ r. put_before front (r >>= (λ x. paste_from false x parts))) p
+pub joined-fault : (rule : Rule) (front : List Carrier) (before q : Option Carrier) (parts : List Part) (fault : ExpandFault) → pasted rule before q ≡ Err fault →
+    put_before front (paste_from rule true before (Piece q ∷ parts)) ≡ Err fault
+joined-fault rule front before q parts fault p = ap (λ r. put_before front (r >>= (λ x. paste_from rule false x parts))) p
 
-pub pasted-none : (before : Option Carrier) → pasted before None ≡ Ok before
-pasted-none None = refl
-pasted-none (Some a) = refl
+pub pasted-none : (rule : Rule) (before : Option Carrier) → pasted rule before None ≡ Ok before
+pasted-none rule None = refl
+pasted-none rule (Some a) = refl
 
 -- tokens that are settled one after the other
-pub passed-run : (front : List Carrier) (before : Option Carrier) (ts : List Carrier) (u : Carrier) (parts : List Part) →
-    put_before ((front ++ tokens_of before) ++ ts) (paste_from false (Some u) parts) ≡ put_before front (paste_from false before (map as_part (ts ++ u ∷ []) ++ parts))
-passed-run front before [] u parts =
-    ap (λ f. put_before f (paste_from false (Some u) parts)) (append-nil (front ++ tokens_of before)) ∙ passed-plain front (front ++ tokens_of before) before (Some u) parts refl
-passed-run front before (t ∷ ts) u parts =
-    ap (λ f. put_before f (paste_from false (Some u) parts)) (sym (append_assoc (front ++ tokens_of before) (t ∷ []) ts))
-    ∙ passed-run (front ++ tokens_of before) (Some t) ts u parts
-    ∙ passed-plain front (front ++ tokens_of before) before (Some t) (map as_part (ts ++ u ∷ []) ++ parts) refl
+pub passed-run : (rule : Rule) (front : List Carrier) (before : Option Carrier) (ts : List Carrier) (u : Carrier) (parts : List Part) →
+    put_before ((front ++ tokens_of before) ++ ts) (paste_from rule false (Some u) parts) ≡ put_before front (paste_from rule false before (map as_part (ts ++ u ∷ []) ++ parts))
+passed-run rule front before [] u parts =
+    ap (λ f. put_before f (paste_from rule false (Some u) parts)) (append-nil (front ++ tokens_of before)) ∙ passed-plain rule front (front ++ tokens_of before) before (Some u) parts refl
+passed-run rule front before (t ∷ ts) u parts =
+    ap (λ f. put_before f (paste_from rule false (Some u) parts)) (sym (append_assoc (front ++ tokens_of before) (t ∷ []) ts))
+    ∙ passed-run rule (front ++ tokens_of before) (Some t) ts u parts
+    ∙ passed-plain rule front (front ++ tokens_of before) before (Some t) (map as_part (ts ++ u ∷ []) ++ parts) refl
 
 ---- the same at the joiner's fields
 
-pub joined-at : (j k : Bool) (front new : List Carrier) (before q after : Option Carrier) (parts : List Part) → j ≡ false → k ≡ true → new ≡ front →
-    pasted before q ≡ Ok after → put_before new (paste_from j after parts) ≡ put_before front (paste_from k before (Piece q ∷ parts))
-joined-at j k front new before q after parts x y e p =
-    ap (λ b. put_before new (paste_from b after parts)) x ∙ passed-joined front new before q after parts e p ∙ ap (λ b. put_before front (paste_from b before (Piece q ∷ parts))) (sym y)
+pub joined-at : (rule r : Rule) (j k : Bool) (front new : List Carrier) (before q after : Option Carrier) (parts : List Part) → r ≡ rule → j ≡ false → k ≡ true → new ≡ front →
+    pasted rule before q ≡ Ok after → put_before new (paste_from r j after parts) ≡ put_before front (paste_from rule k before (Piece q ∷ parts))
+joined-at rule r j k front new before q after parts w x y e p =
+    ap (λ z. put_before new (paste_from z j after parts)) w
+    ∙ ap (λ b. put_before new (paste_from rule b after parts)) x ∙ passed-joined rule front new before q after parts e p ∙ ap (λ b. put_before front (paste_from rule b before (Piece q ∷ parts))) (sym y)
 
-pub joined-fault-at : (k : Bool) (front : List Carrier) (before q : Option Carrier) (parts : List Part) (fault : ExpandFault) → k ≡ true → pasted before q ≡ Err fault →
-    put_before front (paste_from k before (Piece q ∷ parts)) ≡ Err fault
-joined-fault-at k front before q parts fault y p =
-    ap (λ b. put_before front (paste_from b before (Piece q ∷ parts))) y ∙ joined-fault front before q parts fault p
+pub joined-fault-at : (rule : Rule) (k : Bool) (front : List Carrier) (before q : Option Carrier) (parts : List Part) (fault : ExpandFault) → k ≡ true → pasted rule before q ≡ Err fault →
+    put_before front (paste_from rule k before (Piece q ∷ parts)) ≡ Err fault
+joined-fault-at rule k front before q parts fault y p =
+    ap (λ b. put_before front (paste_from rule b before (Piece q ∷ parts))) y ∙ joined-fault rule front before q parts fault p
 
-pub plain-at : (j k : Bool) (front new : List Carrier) (before q after : Option Carrier) (parts : List Part) → j ≡ k → k ≡ false → new ≡ front ++ tokens_of before →
-    after ≡ q → put_before new (paste_from j after parts) ≡ put_before front (paste_from k before (Piece q ∷ parts))
-plain-at j k front new before q after parts x y e f =
-    ap (λ b. put_before new (paste_from b after parts)) (x ∙ y) ∙ ap (λ a. put_before new (paste_from false a parts)) f
-    ∙ passed-plain front new before q parts e ∙ ap (λ b. put_before front (paste_from b before (Piece q ∷ parts))) (sym y)
+pub plain-at : (rule r : Rule) (j k : Bool) (front new : List Carrier) (before q after : Option Carrier) (parts : List Part) → r ≡ rule → j ≡ k → k ≡ false → new ≡ front ++ tokens_of before →
+    after ≡ q → put_before new (paste_from r j after parts) ≡ put_before front (paste_from rule k before (Piece q ∷ parts))
+plain-at rule r j k front new before q after parts w x y e f =
+    ap (λ z. put_before new (paste_from z j after parts)) w
+    ∙ ap (λ b. put_before new (paste_from rule b after parts)) (x ∙ y) ∙ ap (λ a. put_before new (paste_from rule false a parts)) f
+    ∙ passed-plain rule front new before q parts e ∙ ap (λ b. put_before front (paste_from rule b before (Piece q ∷ parts))) (sym y)
 
 -- a list is its front and its last token
 pub last-split : {A : Type 0} (ts : List A) (n : ℕ) (d : A) → length ts ≡ n + 1 → ts ≡ take n ts ++ get_or ts n d ∷ []
 last-split ts n d l =
     sym (take-append-drop n ts) ∙ ap (λ us. take n ts ++ us) (drop-at ts n d (omega (arith, l)) ∙ ap (λ us. get_or ts n d ∷ us) (drop_all (n + 1) ts (omega (arith, l))))
 
-pub run-at : (s : Sets) (j k : Bool) (new front done : List Carried) (before : Option Carrier) (all : List Carried) (n : ℕ) (d : Carried) (parts : List Part) → j ≡ k → k ≡ false →
+pub run-at : (rule r : Rule) (s : Sets) (j k : Bool) (new front done : List Carried) (before : Option Carrier) (all : List Carried) (n : ℕ) (d : Carried) (parts : List Part) → r ≡ rule → j ≡ k → k ≡ false →
     new ≡ front ++ take n all → carriers s front ≡ carriers s done ++ tokens_of before → length all ≡ n + 1 →
-    put_before (carriers s new) (paste_from j (Some (carrier s (get_or all n d))) parts)
-    ≡ put_before (carriers s done) (paste_from k before (map as_part (carriers s all) ++ parts))
-run-at s j k new front done before all n d parts x y w e l =
-    ap (λ b. put_before (carriers s new) (paste_from b (Some (carrier s (get_or all n d))) parts)) (x ∙ y)
-    ∙ ap (λ ts. put_before ts (paste_from false (Some (carrier s (get_or all n d))) parts)) (ap (carriers s) w ∙ map-append (carrier s) front (take n all) ∙ ap (λ ts. ts ++ carriers s (take n all)) e)
-    ∙ passed-run (carriers s done) before (carriers s (take n all)) (carrier s (get_or all n d)) parts
-    ∙ ap (λ ts. put_before (carriers s done) (paste_from false before (map as_part ts ++ parts))) (sym (ap (carriers s) (last-split all n d l) ∙ map-append (carrier s) (take n all) (get_or all n d ∷ [])))
-    ∙ ap (λ b. put_before (carriers s done) (paste_from b before (map as_part (carriers s all) ++ parts))) (sym y)
+    put_before (carriers s new) (paste_from r j (Some (carrier s (get_or all n d))) parts)
+    ≡ put_before (carriers s done) (paste_from rule k before (map as_part (carriers s all) ++ parts))
+run-at rule r s j k new front done before all n d parts v x y w e l =
+    ap (λ z. put_before (carriers s new) (paste_from z j (Some (carrier s (get_or all n d))) parts)) v
+    ∙ ap (λ b. put_before (carriers s new) (paste_from rule b (Some (carrier s (get_or all n d))) parts)) (x ∙ y)
+    ∙ ap (λ ts. put_before ts (paste_from rule false (Some (carrier s (get_or all n d))) parts)) (ap (carriers s) w ∙ map-append (carrier s) front (take n all) ∙ ap (λ ts. ts ++ carriers s (take n all)) e)
+    ∙ passed-run rule (carriers s done) before (carriers s (take n all)) (carrier s (get_or all n d)) parts
+    ∙ ap (λ ts. put_before (carriers s done) (paste_from rule false before (map as_part ts ++ parts))) (sym (ap (carriers s) (last-split all n d l) ∙ map-append (carrier s) (take n all) (get_or all n d ∷ [])))
+    ∙ ap (λ b. put_before (carriers s done) (paste_from rule b before (map as_part (carriers s all) ++ parts))) (sym y)
 
 pub known-take : (n k : ℕ) (ts : List Carried) → AreKnown n ts → AreKnown n (take k ts)
 known-take n zero ts h = tt
@@ -205,12 +209,12 @@ argument-rest s u k ts rest d space before_all after_first after parts l h e fir
 
 ---- the same with the token that was read at a place
 
-pub run-with : (s : Sets) (j k : Bool) (new front done : List Carried) (before : Option Carrier) (all : List Carried) (n : ℕ) (t : Carried) (parts : List Part) → j ≡ k → k ≡ false →
+pub run-with : (rule r : Rule) (s : Sets) (j k : Bool) (new front done : List Carried) (before : Option Carrier) (all : List Carried) (n : ℕ) (t : Carried) (parts : List Part) → r ≡ rule → j ≡ k → k ≡ false →
     new ≡ front ++ take n all → carriers s front ≡ carriers s done ++ tokens_of before → length all ≡ n + 1 → get_or all n t ≡ t →
-    put_before (carriers s new) (paste_from j (Some (carrier s t)) parts)
-    ≡ put_before (carriers s done) (paste_from k before (map as_part (carriers s all) ++ parts))
-run-with s j k new front done before all n t parts x y w e l there =
-    ap (λ u. put_before (carriers s new) (paste_from j (Some (carrier s u)) parts)) (sym there) ∙ run-at s j k new front done before all n t parts x y w e l
+    put_before (carriers s new) (paste_from r j (Some (carrier s t)) parts)
+    ≡ put_before (carriers s done) (paste_from rule k before (map as_part (carriers s all) ++ parts))
+run-with rule r s j k new front done before all n t parts v x y w e l there =
+    ap (λ u. put_before (carriers s new) (paste_from r j (Some (carrier s u)) parts)) (sym there) ∙ run-at rule r s j k new front done before all n t parts v x y w e l
 
 pub known-with : (n k : ℕ) (t : Carried) (ts : List Carried) → k < length ts → get_or ts k t ≡ t → AreKnown n ts → t.set < n
 known-with n k t ts l there h = subst (λ (u : Carried). u.set < n) there (known-at n k t ts l h)

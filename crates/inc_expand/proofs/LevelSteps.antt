@@ -6,7 +6,7 @@ use Rattle.inc_expand.specs.declared.carried.Carried.{Carried}
 use Rattle.inc_expand.specs.declared.faults.ExpandFault.{ExpandFault}
 use Rattle.inc_expand.specs.declared.walks.Work.{Work}
 use Rattle.inc_expand.specs.Sets.{Sets, size}
-use Rattle.inc_expand.specs.Expansion.{Carrier, Case, Passes, Surroundings, Meter, case_of, levels, treated}
+use Rattle.inc_expand.specs.Expansion.{Carrier, Case, Passes, Surroundings, Meter, case_of, levels, treated, rule_in}
 use Rattle.inc_expand.specs.Carriers.{carrier, carriers, AreKnown}
 use Rattle.inc_expand.specs.Arguments.{ArgumentValue, AreKnownIn}
 use Rattle.inc_expand.specs.Walks.{behind, IsRefused, IsReplaced, IsStep}
@@ -20,12 +20,12 @@ use Rattle.inc_expand.proofs.Tables.{keeps-itself}
 module _ (s : Surroundings) (n : ℕ) (token : Carried) (old : Work) (rest : List Carried) (case : Case)
     (case-is : case_of s (carrier old.sets token) (carriers old.sets rest) ≡ case) where
   pub stepped : levels s (suc n) old.meter (carriers old.sets (token ∷ rest))
-      ≡ treated (levels s n) (levels s (suc n)) (carrier old.sets token) old.meter (carriers old.sets rest) case
+      ≡ treated (rule_in s) (levels s n) (levels s (suc n)) (carrier old.sets token) old.meter (carriers old.sets rest) case
   stepped =
       one_step s n old.meter (carrier old.sets token) (carriers old.sets rest)
-      ∙ ap (treated (levels s n) (levels s (suc n)) (carrier old.sets token) old.meter (carriers old.sets rest)) case-is
+      ∙ ap (treated (rule_in s) (levels s n) (levels s (suc n)) (carrier old.sets token) old.meter (carriers old.sets rest)) case-is
 
-  pub step-replaced : (new : Work) (list out : List Carried) → AreKnown (size old.sets) out → IsReplaced (levels s n) case token old new rest list →
+  pub step-replaced : (new : Work) (list out : List Carried) → AreKnown (size old.sets) out → IsReplaced (rule_in s) (levels s n) case token old new rest list →
       IsStep s n token old new rest list out out
   step-replaced new list out known r = record {
     keeps = r.keeps;
@@ -38,7 +38,7 @@ module _ (s : Surroundings) (n : ℕ) (token : Carried) (old : Work) (rest : Lis
         ∙ ap (λ cs. behind cs (levels s (suc n) new.meter (carriers new.sets list))) (sym (same-carriers old.sets new.sets r.keeps out known));
   }
 
-  pub step-refused : (fault : ExpandFault) → IsRefused (levels s n) case token old rest fault →
+  pub step-refused : (fault : ExpandFault) → IsRefused (rule_in s) (levels s n) case token old rest fault →
       levels s (suc n) old.meter (carriers old.sets (token ∷ rest)) ≡ Err fault
   step-refused fault h = stepped ∙ h (levels s (suc n))
 

@@ -13,6 +13,8 @@ pub mod StringSteps
 pub mod ExpansionSteps
 pub mod JoinSteps
 pub mod ElementSteps
+pub mod OptionalSteps
+pub mod OptionalRuns
 pub mod SubstitutionSteps
 pub mod SubstitutionRuns
 pub mod ItemSteps
@@ -32,3 +34,6 @@ pub mod OrdinarySteps
 pub mod SeenSteps
 pub mod MemoryFaults
 pub mod UndefinedNames
+pub mod ContextSteps
+pub mod HiddenNames
+pub mod ContextsAgree

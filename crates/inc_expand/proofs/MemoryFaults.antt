@@ -1,5 +1,5 @@
 -- No list of tokens is refused for want of memory: the definitions know none.
-use Rattle.std.proofs.Common.{ℕ, zero, suc, ◌+◌, ◌==◌, Bool, true, false, List, [], ◌∷◌, ◌++◌, Option, Some, None, Result, Ok, Err, length, map, nat_lt}
+use Rattle.std.proofs.Common.{ℕ, zero, suc, ◌+◌, ◌==◌, Bool, true, false, List, [], ◌∷◌, ◌++◌, Option, Some, None, Result, Ok, Err, drop, length, map, nat_lt}
 use Rattle.std.specs.Prelude.{◌≢◌, IfErr, if◌then◌else◌}
 use Rattle.inc_macro.specs.Macros.{Definition, Params, parameter_names}
 use Rattle.inc_macro.specs.Results.{◌>>=◌}
@@ -9,8 +9,11 @@ use Rattle.inc_token.specs.TokenLines.{Tok}
 use Rattle.inc_token.specs.Spellings.{class_of}
 use Rattle.inc_expand.specs.declared.faults.ExpandFault.{ExpandFault}
 use Rattle.inc_expand.specs.declared.faults.ExpandFault.TheVariants.{ArgumentCount, BadString, TokenTooLong, OverBudget, NoMemory}
-use Rattle.inc_expand.specs.Elements.{Element, Word, Glue, Silent, StringOf, AsWritten, Expanded, Comma, elements_of}
-use Rattle.inc_expand.specs.Expansion.{Expander, Carrier, Surroundings, Case, Passes, IsPredefined, IsObject, IsCall, Call, Argument, Part, Piece, Paste, Meter, union, only, intersection, no_names, in_quotes, spaced, spelled, longest_made, fits, is_str, string_of, kind_or_bad, made_kind, pasted_token, argument_at, parts_of, all_parts, pasted, paste_from, substituted, replacing, bound, unexpanded, filled_up, arguments, is_expanded_in, expanded_argument, expanded_arguments, replaced, called, treated, level, levels, all_levels, call_behind, case_of, of_source, expansion, counted, spent, text_of}
+use Rattle.inc_expand.specs.declared.rules.Rule.{Rule}
+use Rattle.inc_expand.specs.declared.rules.Rule.TheVariants.{BySets}
+use Rattle.inc_expand.specs.Elements.{Element, Word, Glue, Silent, StringOf, AsWritten, Expanded, Comma, Optional, Kept, Empty, Made, elements_of}
+use Rattle.inc_expand.specs.Expansion.{Expander, Carrier, Surroundings, Case, Passes, IsPredefined, IsObject, IsCall, Call, Argument, Part, Piece, Paste, Meter, union, only, intersection, no_names, in_quotes, spaced, spelled, longest_made, fits, is_str, string_of, kind_or_bad, made_kind, pasted_token, argument_at, parts_of, all_parts, pasted, paste_from, chosen, goes_with, has_tokens, inside, joined, standing, stands, substituted, replacing, bound, unexpanded, filled_up, arguments, is_expanded_in, expanded_argument, expanded_arguments, replaced, called, treated, level, levels, all_levels, call_behind, case_of, of_source, expansion, counted, spent, text_of, rule_in, taken}
+use Rattle.inc_text.specs.declared.languages.Language.TheVariants.{C17}
 
 abbrev Has : {A : Type 0} → Result A ExpandFault → Type 0
 Has r = IfErr r (λ fault. fault ≢ NoMemory)
@@ -31,16 +34,16 @@ fits_has text = if_has (nat_lt longest_made (length text)) (Err TokenTooLong) (O
 string_has : (space : Bool) (written : List Carrier) → Has (string_of space written)
 string_has space written =
     then_has (fits (in_quotes (spelled (spaced false written)))) _ (fits_has (in_quotes (spelled (spaced false written)))) (λ text.
-    if_has (is_str (class_of text)) (Ok (record { kind = Str; spelling = text; line = 0; space = space; hidden = no_names })) (Err BadString) tt (λ e. cc))
+    if_has (is_str (class_of C17 text)) (Ok (record { kind = Str; spelling = text; line = 0; space = space; hidden = no_names })) (Err BadString) tt (λ e. cc))
 
 kind_has : (kind : Option Kind) → Has (kind_or_bad kind)
 kind_has None = λ e. cc
 kind_has (Some kind) = tt
 
-pasted_token_has : (a b : Carrier) → Has (pasted_token a b)
-pasted_token_has a b =
+pasted_token_has : (rule : Rule) (a b : Carrier) → Has (pasted_token rule a b)
+pasted_token_has rule a b =
     then_has (made_kind (a.spelling ++ b.spelling)) _
-    (then_has (fits (a.spelling ++ b.spelling)) _ (fits_has (a.spelling ++ b.spelling)) (λ t. kind_has (class_of t)))
+    (then_has (fits (a.spelling ++ b.spelling)) _ (fits_has (a.spelling ++ b.spelling)) (λ t. kind_has (class_of C17 t)))
     (λ kind. tt)
 
 parts_have : (args : List Argument) (e : Element) → Has (parts_of args e)
@@ -51,24 +54,55 @@ parts_have args (StringOf space n) = then_has (string_of space (argument_at args
 parts_have args (AsWritten space n) = tt
 parts_have args (Expanded space n) = tt
 parts_have args (Comma b n) = tt
+parts_have args (Optional hash n) = tt
+parts_have args (Kept space n) = tt
+parts_have args Empty = tt
+parts_have args (Made space text) = tt
 
 all_have : (args : List Argument) (es : List Element) → Has (all_parts args es)
 all_have args [] = tt
 all_have args (e ∷ es) = then_has (parts_of args e) _ (parts_have args e) (λ ps. then_has (all_parts args es) _ (all_have args es) (λ rest. tt))
 
-pasted_has : (a b : Option Carrier) → Has (pasted a b)
-pasted_has None b = tt
-pasted_has (Some a) None = tt
-pasted_has (Some a) (Some b) = then_has (pasted_token a b) _ (pasted_token_has a b) (λ t. tt)
+pasted_has : (rule : Rule) (a b : Option Carrier) → Has (pasted rule a b)
+pasted_has rule None b = tt
+pasted_has rule (Some a) None = tt
+pasted_has rule (Some a) (Some b) = then_has (pasted_token rule a b) _ (pasted_token_has rule a b) (λ t. tt)
 
-paste_has : (joins : Bool) (p : Option Carrier) (ps : List Part) → Has (paste_from joins p ps)
-paste_has joins p [] = tt
-paste_has joins p (Paste ∷ rest) = paste_has true p rest
-paste_has false p (Piece q ∷ rest) = then_has (paste_from false q rest) _ (paste_has false q rest) (λ ts. tt)
-paste_has true p (Piece q ∷ rest) = then_has (pasted p q) _ (pasted_has p q) (λ r. paste_has false r rest)
+paste_has : (rule : Rule) (joins : Bool) (p : Option Carrier) (ps : List Part) → Has (paste_from rule joins p ps)
+paste_has rule joins p [] = tt
+paste_has rule joins p (Paste ∷ rest) = paste_has rule true p rest
+paste_has rule false p (Piece q ∷ rest) = then_has (paste_from rule false q rest) _ (paste_has rule false q rest) (λ ts. tt)
+paste_has rule true p (Piece q ∷ rest) = then_has (pasted rule p q) _ (pasted_has rule p q) (λ r. paste_has rule false r rest)
 
-substituted_has : (args : List Argument) (es : List Element) → Has (substituted args es)
-substituted_has args es = then_has (all_parts args es) _ (all_have args es) (λ ps. paste_has false None ps)
+joined_has : (rule : Rule) (args : List Argument) (es : List Element) → Has (joined rule args es)
+joined_has rule args es = then_has (all_parts args es) _ (all_have args es) (λ ps. paste_has rule false None ps)
+
+standing_has : (args : List Argument) (hash : Option Bool) (es : List Element) → Has (standing args hash es)
+standing_has args None es = tt
+standing_has args (Some space) es = then_has (joined BySets args es) _ (joined_has BySets args es) (λ ts. then_has (string_of space ts) _ (string_has space ts) (λ t. tt))
+
+stands_has : (args : List Argument) (e : Element) (es : List Element) → Has (stands args e es)
+stands_has args (Word b) es = tt
+stands_has args Glue es = tt
+stands_has args Silent es = tt
+stands_has args (StringOf space n) es = tt
+stands_has args (AsWritten space n) es = tt
+stands_has args (Expanded space n) es = tt
+stands_has args (Comma b n) es = tt
+stands_has args (Optional hash n) es = standing_has args hash (if has_tokens args n then inside 0 (drop 1 es) else [])
+stands_has args (Kept space n) es = tt
+stands_has args Empty es = tt
+stands_has args (Made space text) es = tt
+
+chosen_has : (args : List Argument) (skip : ℕ) (es : List Element) → Has (chosen args skip es)
+chosen_has args skip [] = tt
+chosen_has args (suc k) (e ∷ es) = chosen_has args k es
+chosen_has args zero (e ∷ es) =
+    let rest = chosen_has args (goes_with e es) es in
+    then_has (stands args e es) _ (stands_has args e es) (λ cs. then_has (chosen args (goes_with e es) es) _ rest (λ more. tt))
+
+substituted_has : (rule : Rule) (args : List Argument) (es : List Element) → Has (substituted rule args es)
+substituted_has rule args es = then_has (chosen args 0 es) _ (chosen_has args 0 es) (λ cs. joined_has rule args cs)
 
 ---- lists
 
@@ -103,29 +137,29 @@ replaced_has again meter new rest h = go (nat_lt meter.units (1 + length new))
     go true = λ e. cc
     go false = h (spent (1 + length new) meter) (new ++ rest)
 
-called_has : (d again : Expander) (t : Carrier) (meter : Meter) (m : Definition) (p : Params) (c : Option Call) → Gives d → Gives again → Has (called d again t meter m p c)
-called_has d again t meter m p None h k = λ e. cc
-called_has d again t meter m p (Some c) h k =
-    then_has (bound p c.inside) _ (bound_has p c.inside) (λ args.
+called_has : (rule : Rule) (d again : Expander) (t : Carrier) (meter : Meter) (m : Definition) (p : Params) (c : Option Call) → Gives d → Gives again → Has (called rule d again t meter m p c)
+called_has rule d again t meter m p None h k = λ e. cc
+called_has rule d again t meter m p (Some c) h k =
+    then_has (bound p (taken rule c.close.hidden c.inside)) _ (bound_has p (taken rule c.close.hidden c.inside)) (λ args.
     then_has (expanded_arguments d (elements_of m) meter 0 args) _ (arguments_have d (elements_of m) meter 0 args h) (λ e.
-    then_has (substituted e.0 (elements_of m)) _ (substituted_has e.0 (elements_of m)) (λ new.
-    replaced_has again e.1 (replacing t (union (only m.name) (intersection t.hidden c.close.hidden)) new) c.rest k)))
+    then_has (substituted rule e.0 (elements_of m)) _ (substituted_has rule e.0 (elements_of m)) (λ new.
+    replaced_has again e.1 (replacing rule t (union (only m.name) (intersection t.hidden c.close.hidden)) new) c.rest k)))
 
-treated_has : (d again : Expander) (t : Carrier) (meter : Meter) (rest : List Carrier) (c : Case) → Gives d → Gives again → Has (treated d again t meter rest c)
+treated_has : (rule : Rule) (d again : Expander) (t : Carrier) (meter : Meter) (rest : List Carrier) (c : Case) → Gives d → Gives again → Has (treated rule d again t meter rest c)
 unfolding Gives
-treated_has d again t meter ts (Passes front rest) h k = then_has (again meter rest) _ (k meter rest) (λ r. tt)
-treated_has d again t meter ts (IsPredefined kind content) h k =
+treated_has rule d again t meter ts (Passes front rest) h k = then_has (again meter rest) _ (k meter rest) (λ r. tt)
+treated_has rule d again t meter ts (IsPredefined kind content) h k =
     replaced_has again (counted content meter) (record t { kind = kind; spelling = text_of meter content; hidden = union (only t.spelling) t.hidden } ∷ []) ts k
-treated_has d again t meter ts (IsObject m) h k =
-    then_has (substituted [] (elements_of m)) _ (substituted_has [] (elements_of m)) (λ new.
-    replaced_has again meter (replacing t (union (only m.name) t.hidden) new) ts k)
-treated_has d again t meter ts (IsCall m p behind) h k = called_has d again t meter m p (call_behind 0 behind) h k
+treated_has rule d again t meter ts (IsObject m) h k =
+    then_has (substituted rule [] (elements_of m)) _ (substituted_has rule [] (elements_of m)) (λ new.
+    replaced_has again meter (replacing rule t (union (only m.name) t.hidden) new) ts k)
+treated_has rule d again t meter ts (IsCall m p behind) h k = called_has rule d again t meter m p (call_behind 0 behind) h k
 
 level_has : (s : Surroundings) (d : Expander) → Gives d → (steps : ℕ) → Gives (level s d steps)
 unfolding Gives
 level_has s d h zero meter ts = λ e. cc
 level_has s d h (suc steps) meter [] = tt
-level_has s d h (suc steps) meter (t ∷ ts) = treated_has d (level s d steps) t meter ts (case_of s t ts) h (level_has s d h steps)
+level_has s d h (suc steps) meter (t ∷ ts) = treated_has (rule_in s) d (level s d steps) t meter ts (case_of s t ts) h (level_has s d h steps)
 
 levels_have : (s : Surroundings) (n : ℕ) → Gives (levels s n)
 unfolding Gives

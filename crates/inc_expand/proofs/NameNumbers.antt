@@ -71,7 +71,7 @@ pub and-false : (a b : Bool) → b ≡ false → (a && b) ≡ false
 and-false true b e = e
 and-false false b e = refl
 
-same-bytes : (x : List ℕ) → bytes_eq x x ≡ true
+pub same-bytes : (x : List ℕ) → bytes_eq x x ≡ true
 same-bytes x = (bytes_eq-Decides x x).1 refl
 
 -- a name that was seen is at its number

@@ -9,21 +9,24 @@ use Rattle.inc_macro.specs.Results.{◌>>=◌}
 use Rattle.inc_macro.specs.Macros.{BodyToken, Definition}
 use Rattle.inc_macro.specs.Roles.{is_plain_role, roles_of}
 use Rattle.inc_macro.specs.declared.roles.Role.{Role}
-use Rattle.inc_macro.specs.declared.roles.Role.TheVariants.{Itself, Paste as PasteRole, Hash as HashRole, AsWritten as WrittenRole, Expanded as ExpandedRole, Comma as CommaRole, Nothing as NothingRole}
+use Rattle.inc_macro.specs.declared.roles.Role.TheVariants.{Itself, Paste as PasteRole, Hash as HashRole, AsWritten as WrittenRole, Expanded as ExpandedRole, Comma as CommaRole, Nothing as NothingRole, Optional as OptionalRole}
 use Rattle.inc_expand.specs.declared.carried.Carried.{Carried}
 use Rattle.inc_expand.specs.declared.faults.ExpandFault.{ExpandFault}
 use Rattle.inc_expand.specs.declared.faults.ExpandFault.TheVariants.{OverBudget}
 use Rattle.inc_expand.specs.declared.walks.Work.{Work}
+use Rattle.inc_expand.specs.declared.rules.Rule.{Rule}
 use Rattle.inc_expand.specs.Sets.{Sets, size, holds, Keeps}
-use Rattle.inc_expand.specs.Elements.{Element, Word, Glue, Silent, StringOf, AsWritten, Expanded, Comma, element, elements_from, elements_of, hash_of}
-use Rattle.inc_expand.specs.Expansion.{Argument, Carrier, Expander, Names, Meter, all_parts, as_part, only, parts_of, paste_from, replaced, replacing, spent, substituted, tokens_of, union}
+use Rattle.inc_expand.specs.Elements.{Element, Word, Glue, Silent, StringOf, AsWritten, Expanded, Comma, Optional, Kept, Empty, Made, element, elements_from, elements_of, hash_of}
+use Rattle.inc_expand.specs.Expansion.{Argument, Carrier, Expander, Names, Meter, all_parts, as_part, chosen, joined, only, parts_of, paste_from, replaced, replacing, spent, substituted, tokens_of, union}
 use Rattle.inc_expand.specs.Carriers.{carrier, carriers, AreKnown}
 use Rattle.inc_expand.specs.Arguments.{ArgumentValue, argument_values, AreKnownIn}
+use Rattle.inc_expand.specs.Optionals.{optional_of}
 use Rattle.inc_expand.specs.Puts.{moved}
 use Rattle.inc_expand.specs.Plain.{ArePlain, IsLaid, is_plain_at, plain_tokens, tokens_at}
 use Rattle.inc_expand.specs.Walks.{IsNotPlaced, IsPlaced}
 use Rattle.inc_expand.proofs.ElementSteps.{place-at}
 use Rattle.inc_expand.proofs.JoinSteps.{same-carriers, keeps-more}
+use Rattle.inc_expand.proofs.OptionalSteps.{alone-chosen}
 use Rattle.inc_expand.proofs.SubstitutionRuns.{same-arguments}
 use Rattle.inc_expand.proofs.Tables.{keeps-itself}
 use Rattle.inc_expand.proofs.WalkSteps.{length-spaced, or-turned, replaced-paid}
@@ -38,6 +41,7 @@ plain-role h b (WrittenRole n) is = absurd (true≢false (sym is))
 plain-role h b (ExpandedRole n) is = refl
 plain-role h b (CommaRole n) is = absurd (true≢false (sym is))
 plain-role h b NothingRole is = absurd (true≢false (sym is))
+plain-role h b (OptionalRole n) is = absurd (true≢false (sym is))
 
 plain-from : (h : Option Bool) (bs : List BodyToken) (rs : List Role) → list_all is_plain_role rs ≡ true → ArePlain (elements_from h bs rs)
 plain-from h [] rs all i e is = cc
@@ -61,6 +65,10 @@ plain-part args Silent h = absurd (true≢false (sym h))
 plain-part args (StringOf space n) h = absurd (true≢false (sym h))
 plain-part args (AsWritten space n) h = absurd (true≢false (sym h))
 plain-part args (Comma b n) h = absurd (true≢false (sym h))
+plain-part args (Optional hash n) h = absurd (true≢false (sym h))
+plain-part args (Kept space n) h = absurd (true≢false (sym h))
+plain-part args Empty h = absurd (true≢false (sym h))
+plain-part args (Made space text) h = absurd (true≢false (sym h))
 
 plain-parts : (args : List Argument) (es : List Element) → ArePlain es → all_parts args es ≡ Ok (map as_part (plain_tokens args es))
 plain-parts args [] h = refl
@@ -69,34 +77,54 @@ plain-parts args (e ∷ es) h =
     ∙ ap (λ r. r >>= (λ rest. Ok (map as_part (tokens_at args e) ++ rest))) (plain-parts args es (λ i. h (suc i)))
     ∙ ap Ok (sym (map-append as_part (tokens_at args e) (plain_tokens args es)))
 
-paste-plain : (p : Option Carrier) (ts : List Carrier) → paste_from false p (map as_part ts) ≡ Ok (tokens_of p ++ ts)
-paste-plain p [] = ap Ok (sym (append-nil (tokens_of p)))
-paste-plain p (t ∷ ts) = ap (λ r. r >>= (λ xs. Ok (tokens_of p ++ xs))) (paste-plain (Some t) ts)
+paste-plain : (rule : Rule) (p : Option Carrier) (ts : List Carrier) → paste_from rule false p (map as_part ts) ≡ Ok (tokens_of p ++ ts)
+paste-plain rule p [] = ap Ok (sym (append-nil (tokens_of p)))
+paste-plain rule p (t ∷ ts) = ap (λ r. r >>= (λ xs. Ok (tokens_of p ++ xs))) (paste-plain rule (Some t) ts)
 
-pub plain-substituted : (args : List Argument) (es : List Element) → ArePlain es → substituted args es ≡ Ok (plain_tokens args es)
-plain-substituted args es h = ap (λ r. r >>= (λ ps. paste_from false None ps)) (plain-parts args es h) ∙ paste-plain None (plain_tokens args es)
+-- a plain place stands for itself
+plain-alone : (e : Element) → is_plain_at e ≡ true → optional_of e ≡ None
+plain-alone (Word b) h = refl
+plain-alone (Expanded space n) h = refl
+plain-alone Glue h = refl
+plain-alone Silent h = refl
+plain-alone (StringOf space n) h = refl
+plain-alone (AsWritten space n) h = refl
+plain-alone (Comma b n) h = refl
+plain-alone (Optional hash n) h = absurd (true≢false (sym h))
+plain-alone (Kept space n) h = refl
+plain-alone Empty h = refl
+plain-alone (Made space text) h = refl
+
+plain-chosen : (args : List Argument) (es : List Element) → ArePlain es → chosen args 0 es ≡ Ok es
+plain-chosen args [] h = refl
+plain-chosen args (e ∷ es) h = alone-chosen args e es (plain-alone e (h 0 e refl)) (plain-chosen args es (λ i. h (suc i)))
+
+pub plain-substituted : (rule : Rule) (args : List Argument) (es : List Element) → ArePlain es → substituted rule args es ≡ Ok (plain_tokens args es)
+plain-substituted rule args es h =
+    ap (λ r. r >>= (λ cs. joined rule args cs)) (plain-chosen args es h)
+    ∙ ap (λ r. r >>= (λ ps. paste_from rule false None ps)) (plain-parts args es h) ∙ paste-plain rule None (plain_tokens args es)
 
 ---- tokens that are put before a list
 
-pub laid-none : (s : Sets) (line names : ℕ) (list : List Carried) → AreKnown (size s) list → IsLaid s s line names [] list list
-laid-none s line names list h = record { keeps = keeps-itself s; list = refl; known = h }
+pub laid-none : (rule : Rule) (s : Sets) (line names : ℕ) (list : List Carried) → AreKnown (size s) list → IsLaid rule s s line names [] list list
+laid-none rule s line names list h = record { keeps = keeps-itself s; list = refl; known = h }
 
-laid-more : (s u v : Sets) (line names : ℕ) (us ts : List Carrier) (before mid after : List Carried) → names < size s →
-    IsLaid s u line names ts before mid → IsLaid u v line names us mid after → IsLaid s v line names (us ++ ts) before after
-laid-more s u v line names us ts before mid after l p q = record {
+laid-more : (rule : Rule) (s u v : Sets) (line names : ℕ) (us ts : List Carrier) (before mid after : List Carried) → names < size s →
+    IsLaid rule s u line names ts before mid → IsLaid rule u v line names us mid after → IsLaid rule s v line names (us ++ ts) before after
+laid-more rule s u v line names us ts before mid after l p q = record {
   keeps = keeps-more s u v p.keeps q.keeps;
   list = q.list
-      ∙ ap₂ (λ (f : Names) (cs : List Carrier). map (moved line f) us ++ cs) (fun_ext (p.keeps.same names l)) p.list
-      ∙ sym (append_assoc (map (moved line (holds s names)) us) (map (moved line (holds s names)) ts) (carriers s before))
-      ∙ ap (λ cs. cs ++ carriers s before) (sym (map-append (moved line (holds s names)) us ts));
+      ∙ ap₂ (λ (f : Names) (cs : List Carrier). map (moved rule line f) us ++ cs) (fun_ext (p.keeps.same names l)) p.list
+      ∙ sym (append_assoc (map (moved rule line (holds s names)) us) (map (moved rule line (holds s names)) ts) (carriers s before))
+      ∙ ap (λ cs. cs ++ carriers s before) (sym (map-append (moved rule line (holds s names)) us ts));
   known = q.known;
 }
 
 ---- place by place
 
-module _ (s u : Sets) (line names : ℕ) (as' : List ArgumentValue) (es : List Element) (i j : ℕ) (e : Element) (before mid : List Carried) (units left : ℕ)
+module _ (rule : Rule) (s u : Sets) (line names : ℕ) (as' : List ArgumentValue) (es : List Element) (i j : ℕ) (e : Element) (before mid : List Carried) (units left : ℕ)
     (l : names < size s) (known : AreKnownIn (size s) as') (here : slice_get es i ≡ Some e) (next : j ≡ i + 1)
-    (p : IsLaid s u line names (plain_tokens (argument_values s as') (drop j es)) before mid)
+    (p : IsLaid rule s u line names (plain_tokens (argument_values s as') (drop j es)) before mid)
     (paid : left + length (plain_tokens (argument_values s as') (drop j es)) ≡ units) where
   same-here : tokens_at (argument_values u as') e ≡ tokens_at (argument_values s as') e
   same-here = ap (λ xs. tokens_at xs e) (same-arguments s u p.keeps as' known)
@@ -109,12 +137,12 @@ module _ (s u : Sets) (line names : ℕ) (as' : List ArgumentValue) (es : List E
       ap length tokens-here ∙ length-append (tokens_at (argument_values s as') e) (plain_tokens (argument_values s as') (drop j es))
       ∙ ap (λ ts. length ts + length (plain_tokens (argument_values s as') (drop j es))) (sym same-here)
 
-  pub laid-at : (v : Sets) (after : List Carried) → IsLaid u v line names (tokens_at (argument_values u as') e) mid after →
-      IsLaid s v line names (plain_tokens (argument_values s as') (drop i es)) before after
+  pub laid-at : (v : Sets) (after : List Carried) → IsLaid rule u v line names (tokens_at (argument_values u as') e) mid after →
+      IsLaid rule s v line names (plain_tokens (argument_values s as') (drop i es)) before after
   laid-at v after q =
-      subst (λ ts. IsLaid s v line names ts before after) (sym tokens-here)
-      (laid-more s u v line names (tokens_at (argument_values s as') e) (plain_tokens (argument_values s as') (drop j es)) before mid after l p
-      (subst (λ ts. IsLaid u v line names ts mid after) same-here q))
+      subst (λ ts. IsLaid rule s v line names ts before after) (sym tokens-here)
+      (laid-more rule s u v line names (tokens_at (argument_values s as') e) (plain_tokens (argument_values s as') (drop j es)) before mid after l p
+      (subst (λ ts. IsLaid rule u v line names ts mid after) same-here q))
 
   pub paid-at : (now : ℕ) → now + length (tokens_at (argument_values u as') e) ≡ left → now + length (plain_tokens (argument_values s as') (drop i es)) ≡ units
   paid-at now q = omega (arith, paid, q, length-here)
@@ -133,47 +161,47 @@ module _ (s u : Sets) (line names : ℕ) (as' : List ArgumentValue) (es : List E
 
 ---- the whole replacement
 
-length-replaced : (t : Carrier) (names : Names) (ts : List Carrier) → length (replacing t names ts) ≡ length ts
-length-replaced t names ts = length-spaced t.space (map (moved t.line names) ts) ∙ length-map ts (moved t.line names)
+length-replaced : (rule : Rule) (t : Carrier) (names : Names) (ts : List Carrier) → length (replacing rule t names ts) ≡ length ts
+length-replaced rule t names ts = length-spaced t.space (map (moved rule t.line names) ts) ∙ length-map ts (moved rule t.line names)
 
-module _ (d : Definition) (args : List ArgumentValue) (t : Carried) (old : Work) (hidden : ℕ) (rest : List Carried) (plain : ArePlain (elements_of d)) where
+module _ (rule : Rule) (d : Definition) (args : List ArgumentValue) (t : Carried) (old : Work) (hidden : ℕ) (rest : List Carried) (plain : ArePlain (elements_of d)) where
   abbrev body : List Carrier
   body = plain_tokens (argument_values old.sets args) (elements_of d)
 
   abbrev all : Names
   all = union (only d.name) (holds old.sets hidden)
 
-  by-body : (again : Expander) → (substituted (argument_values old.sets args) (elements_of d) >>= (λ cs. replaced again old.meter (replacing (carrier old.sets t) all cs) (carriers old.sets rest)))
-      ≡ replaced again old.meter (replacing (carrier old.sets t) all body) (carriers old.sets rest)
-  by-body again = ap (λ r. r >>= (λ cs. replaced again old.meter (replacing (carrier old.sets t) all cs) (carriers old.sets rest))) (plain-substituted (argument_values old.sets args) (elements_of d) plain)
+  by-body : (again : Expander) → (substituted rule (argument_values old.sets args) (elements_of d) >>= (λ cs. replaced again old.meter (replacing rule (carrier old.sets t) all cs) (carriers old.sets rest)))
+      ≡ replaced again old.meter (replacing rule (carrier old.sets t) all body) (carriers old.sets rest)
+  by-body again = ap (λ r. r >>= (λ cs. replaced again old.meter (replacing rule (carrier old.sets t) all cs) (carriers old.sets rest))) (plain-substituted rule (argument_values old.sets args) (elements_of d) plain)
 
-  pub plain-over : old.meter.units < 1 + length body → IsNotPlaced d args t hidden old rest OverBudget
+  pub plain-over : old.meter.units < 1 + length body → IsNotPlaced rule d args t hidden old rest OverBudget
   plain-over l again =
       by-body again
-      ∙ ap (λ b. elim b as (λ _. Result (List Carrier × Meter) ExpandFault) [ true ↦ Err OverBudget | false ↦ again (spent (1 + length (replacing (carrier old.sets t) all body)) old.meter) (replacing (carrier old.sets t) all body ++ carriers old.sets rest) ])
-      (ap (λ m. nat_lt old.meter.units (1 + m)) (length-replaced (carrier old.sets t) all body) ∙ lt-ltb old.meter.units (1 + length body) l)
+      ∙ ap (λ b. elim b as (λ _. Result (List Carrier × Meter) ExpandFault) [ true ↦ Err OverBudget | false ↦ again (spent (1 + length (replacing rule (carrier old.sets t) all body)) old.meter) (replacing rule (carrier old.sets t) all body ++ carriers old.sets rest) ])
+      (ap (λ m. nat_lt old.meter.units (1 + m)) (length-replaced rule (carrier old.sets t) all body) ∙ lt-ltb old.meter.units (1 + length body) l)
 
   module _ (known_args : AreKnownIn (size old.sets) args) (rest_known : AreKnown (size old.sets) rest) (l : hidden < size old.sets) (v : Sets) (keeps : Keeps old.sets v) where
     same-body : plain_tokens (argument_values v args) (elements_of d) ≡ body
     same-body = ap (λ xs. plain_tokens xs (elements_of d)) (same-arguments old.sets v keeps args known_args)
 
-    pub plain-over-later : (units : ℕ) → units + 1 ≡ old.meter.units → units < length (plain_tokens (argument_values v args) (elements_of d)) → IsNotPlaced d args t hidden old rest OverBudget
+    pub plain-over-later : (units : ℕ) → units + 1 ≡ old.meter.units → units < length (plain_tokens (argument_values v args) (elements_of d)) → IsNotPlaced rule d args t hidden old rest OverBudget
     plain-over-later units e m = plain-over (let same = ap length same-body in omega (arith, e, m, same))
 
     pub plain-placed : (new : Work) (names units left : ℕ) (list : List Carried) → ((n : List ℕ) → holds v names n ≡ (holds old.sets hidden n || bytes_eq n d.name)) →
-        Keeps v new.sets → carriers new.sets list ≡ replacing (carrier v t) (holds v names) (plain_tokens (argument_values v args) (elements_of d)) ++ carriers v rest →
+        Keeps v new.sets → carriers new.sets list ≡ replacing rule (carrier v t) (holds v names) (plain_tokens (argument_values v args) (elements_of d)) ++ carriers v rest →
         AreKnown (size new.sets) list → units + 1 ≡ old.meter.units → left + length (plain_tokens (argument_values v args) (elements_of d)) ≡ units →
         new.meter ≡ record { units = left; counter = old.meter.counter } →
-        IsPlaced d args t hidden old new rest list
+        IsPlaced rule d args t hidden old new rest list
     plain-placed new names units left list members kw is known first paid meter =
         let same : length (plain_tokens (argument_values v args) (elements_of d)) ≡ length body = ap length same-body in
-        let put : carriers new.sets list ≡ replacing (carrier old.sets t) all body ++ carriers old.sets rest
+        let put : carriers new.sets list ≡ replacing rule (carrier old.sets t) all body ++ carriers old.sets rest
         = is
-        ∙ ap₂ (λ (h : Names) (cs : List Carrier). replacing (carrier old.sets t) h cs ++ carriers v rest) (fun_ext hides) same-body
-        ∙ ap (λ cs. replacing (carrier old.sets t) all body ++ cs) (same-carriers old.sets v keeps rest rest_known) in
+        ∙ ap₂ (λ (h : Names) (cs : List Carrier). replacing rule (carrier old.sets t) h cs ++ carriers v rest) (fun_ext hides) same-body
+        ∙ ap (λ cs. replacing rule (carrier old.sets t) all body ++ cs) (same-carriers old.sets v keeps rest rest_known) in
         let long : length list ≡ length body + length rest
-        = sym (length-map list (carrier new.sets)) ∙ ap length put ∙ length-append (replacing (carrier old.sets t) all body) (carriers old.sets rest)
-        ∙ ap₂ (λ a b. a + b) (length-replaced (carrier old.sets t) all body) (length-map rest (carrier old.sets)) in
+        = sym (length-map list (carrier new.sets)) ∙ ap length put ∙ length-append (replacing rule (carrier old.sets t) all body) (carriers old.sets rest)
+        ∙ ap₂ (λ a b. a + b) (length-replaced rule (carrier old.sets t) all body) (length-map rest (carrier old.sets)) in
         let less : left ≡ old.meter.units - (1 + length body) = omega (arith, same, first, paid) in
         let now : new.meter.units ≡ left = ap (λ (m : Meter). m.units) meter in
         let spends : new.meter ≡ spent (1 + length body) old.meter = meter ∙ ap with_left less in
@@ -184,7 +212,7 @@ module _ (d : Definition) (args : List ArgumentValue) (t : Carried) (old : Work)
           smaller = omega (arith, first, paid, long, same, now);
           same = λ again.
               by-body again
-              ∙ replaced-paid again old.meter (length body) (replacing (carrier old.sets t) all body) (carriers old.sets rest) (length-replaced (carrier old.sets t) all body)
+              ∙ replaced-paid again old.meter (length body) (replacing rule (carrier old.sets t) all body) (carriers old.sets rest) (length-replaced rule (carrier old.sets t) all body)
               (le-ltb old.meter.units (1 + length body) (omega (arith, first, paid, same)))
               ∙ ap₂ again (sym spends) (sym put);
         }

@@ -4,6 +4,7 @@ use Rattle.std.specs.Fmt.{decimal, digit_glyph, digits_onto, digits}
 use Rattle.std.proofs.lemmas.Bool.{agree_below_at}
 use Rattle.inc_token.specs.Spellings.{is_digit, number_part, is_row, begins_number, is_number}
 use Rattle.inc_token.proofs.Rows.{differs}
+use Rattle.inc_text.specs.declared.languages.Language.{Language}
 
 -- all are digits, and there is one
 AreDigits : List ℕ → Type 0
@@ -15,16 +16,16 @@ IsSome [] = ⊥
 IsSome (b ∷ bs) = Unit {0}
 
 -- a digit is a part by itself
-part-digit : (b : ℕ) (bs : List ℕ) → is_digit b ≡ true → number_part (b ∷ bs) ≡ 1
-part-digit b [] d = rw (differs is_digit 46 b refl d, d) refl
-part-digit b (c ∷ cs) d =
+part-digit : (language : Language) (b : ℕ) (bs : List ℕ) → is_digit b ≡ true → number_part language (b ∷ bs) ≡ 1
+part-digit language b [] d = rw (differs is_digit 46 b refl d, d) refl
+part-digit language b (c ∷ cs) d =
     rw (differs is_digit 101 b refl d, differs is_digit 69 b refl d, differs is_digit 112 b refl d, differs is_digit 80 b refl d, differs is_digit 46 b refl d, d) refl
 
-row-digits : (bs : List ℕ) → AreDigits bs → is_row number_part 0 bs ≡ true
+row-digits : (language : Language) (bs : List ℕ) → AreDigits bs → is_row (number_part language) 0 bs ≡ true
 unfolding AreDigits
-row-digits [] h = refl
-row-digits (b ∷ bs) h =
-    subst (λ n. (nat_lt 0 n && is_row number_part (n - 1) bs) ≡ true) (sym (part-digit b bs h.0)) (row-digits bs h.1)
+row-digits language [] h = refl
+row-digits language (b ∷ bs) h =
+    subst (λ n. (nat_lt 0 n && is_row (number_part language) (n - 1) bs) ≡ true) (sym (part-digit language b bs h.0)) (row-digits language bs h.1)
 
 both : (a b : Bool) → a ≡ true → b ≡ true → (a && b) ≡ true
 both true b is h = h
@@ -38,10 +39,10 @@ begins-digit : (b : ℕ) (bs : List ℕ) → is_digit b ≡ true → begins_numb
 begins-digit b [] d = d
 begins-digit b (c ∷ cs) d = first_of (is_digit b) _ d
 
-number-digits : (bs : List ℕ) → IsSome bs → AreDigits bs → is_number bs ≡ true
+number-digits : (language : Language) (bs : List ℕ) → IsSome bs → AreDigits bs → is_number language bs ≡ true
 unfolding AreDigits IsSome
-number-digits [] some h = absurd some
-number-digits (b ∷ bs) some h = both (begins_number (b ∷ bs)) (is_row number_part 0 (b ∷ bs)) (begins-digit b bs h.0) (row-digits (b ∷ bs) h)
+number-digits language [] some h = absurd some
+number-digits language (b ∷ bs) some h = both (begins_number (b ∷ bs)) (is_row (number_part language) 0 (b ∷ bs)) (begins-digit b bs h.0) (row-digits language (b ∷ bs) h)
 
 glyph-digit : (n : ℕ) → is_digit (digit_glyph false (n % 10)) ≡ true
 glyph-digit n = let low : n % 10 < 10 = omega arith in agree_below_at (λ d. is_digit (digit_glyph false d)) (λ d. true) 10 (n % 10) refl low
@@ -74,10 +75,10 @@ first-some k n = go (n / 10 == 0)
     go true = tt
     go false = onto-some k (n / 10) (digit_glyph false (n % 10)) []
 
-decimal-by : (k n : ℕ) → is_number (digits_onto (suc k) 10 false n []) ≡ true
+decimal-by : (language : Language) (k n : ℕ) → is_number language (digits_onto (suc k) 10 false n []) ≡ true
 unfolding AreDigits
-decimal-by k n = number-digits (digits_onto (suc k) 10 false n []) (first-some k n) (onto-digits (suc k) n [] tt)
+decimal-by language k n = number-digits language (digits_onto (suc k) 10 false n []) (first-some k n) (onto-digits (suc k) n [] tt)
 
-pub decimal-number : (n : ℕ) → is_number (decimal n) ≡ true
+pub decimal-number : (language : Language) (n : ℕ) → is_number language (decimal n) ≡ true
 unfolding digits
-decimal-number n = decimal-by 63 n
+decimal-number language n = decimal-by language 63 n

@@ -12,7 +12,7 @@ use Rattle.inc_expand.specs.Sets.{Sets, size}
 use Rattle.inc_token.specs.declared.lines.Token.{Token}
 use Rattle.inc_token.specs.Views.{seen}
 use Rattle.inc_expand.specs.Carriers.{carried_of, carrier, carriers, AreKnown}
-use Rattle.inc_expand.specs.Expansion.{Carrier, Item, Surroundings, Meter, all_levels, item_of, levels, of_source, treated}
+use Rattle.inc_expand.specs.Expansion.{Carrier, Item, Surroundings, Meter, all_levels, item_of, levels, of_source, treated, rule_in}
 use Rattle.inc_expand.specs.Sinks.{Taken, carried_item, is_none, item_of_source}
 use Rattle.inc_expand.specs.Frames.{answer, level_result, steps_left, unwound, AreFrames, IsKnownLevel, IsTurn}
 use Rattle.inc_expand.specs.Streams.{AreHanded, ArePassed, IsHandedOn, IsOver, IsStopped, PassAlone, PassesAlone, handed}
@@ -180,7 +180,7 @@ pub passed-levels : (s : Surroundings) (n : ℕ) (meter : Meter) (front rest : L
 passed-levels s n meter [] rest h = sym (behind-none (levels s (suc n) meter rest))
 passed-levels s n meter (t ∷ ts) rest h =
     one_step s n meter t (ts ++ rest)
-    ∙ ap (treated (levels s n) (levels s (suc n)) t meter (ts ++ rest)) (h.0 (ts ++ rest))
+    ∙ ap (treated (rule_in s) (levels s n) (levels s (suc n)) t meter (ts ++ rest)) (h.0 (ts ++ rest))
     ∙ ap (behind (t ∷ [])) (passed-levels s n meter ts rest h.1)
     ∙ behind-both (t ∷ []) ts (levels s (suc n) meter rest)
 

@@ -14,6 +14,7 @@ use Rattle.inc_expand.specs.Sets.{Sets}
 use Rattle.inc_expand.specs.Expansion.{Carrier, is_literal, escaped, spelled_token, spelled, spaced, in_quotes, fits, longest_made, is_str, string_of, no_names, Names}
 use Rattle.inc_expand.specs.Carriers.{carrier, carriers}
 use Rattle.inc_expand.proofs.CallSteps.{drop-at}
+use Rattle.inc_text.specs.declared.languages.Language.TheVariants.{C17}
 
 pub escaped-cons : (b : ℕ) (bs : List ℕ) → escaped (b ∷ bs) ≡ escaped (b ∷ []) ++ escaped bs
 escaped-cons b bs = by ((b == quotation_mark) || (b == backslash))
@@ -129,17 +130,17 @@ whole s all i text new l b few e =
 
 -- the string as a token
 pub string-is : (written : List Carrier) (space : Bool) (text bytes : List ℕ) (hidden : Names) →
-    fits (in_quotes (spelled (spaced false written))) ≡ Ok text → is_str (class_of text) ≡ true → bytes ≡ text → ((n : List ℕ) → hidden n ≡ false) →
+    fits (in_quotes (spelled (spaced false written))) ≡ Ok text → is_str (class_of C17 text) ≡ true → bytes ≡ text → ((n : List ℕ) → hidden n ≡ false) →
     string_of space written ≡ Ok (record { kind = Str; spelling = bytes; line = 0; space = space; hidden = hidden })
 string-is written space text bytes hidden e k same none =
-    ap (λ r. r >>= made) e ∙ cond-true {A = Result Carrier ExpandFault} (is_str (class_of text)) (Ok (token text no_names)) (Err BadString) k
+    ap (λ r. r >>= made) e ∙ cond-true {A = Result Carrier ExpandFault} (is_str (class_of C17 text)) (Ok (token text no_names)) (Err BadString) k
     ∙ ap₂ (λ (t : List ℕ) (h : Names). Ok (token t h)) (sym same) (fun_ext λ n. sym (none n))
   where
     token : List ℕ → Names → Carrier
     token t h = record { kind = Str; spelling = t; line = 0; space = space; hidden = h }
 
     made : List ℕ → Result Carrier ExpandFault
-    made t = if is_str (class_of t) then Ok (token t no_names) else Err BadString
+    made t = if is_str (class_of C17 t) then Ok (token t no_names) else Err BadString
 
 ---- the same of the token that was read there
 

@@ -5,9 +5,10 @@ use Rattle.inc_macro.specs.Results.{◌>>=◌}
 use Rattle.inc_expand.specs.declared.carried.Carried.{Carried}
 use Rattle.inc_expand.specs.declared.faults.ExpandFault.{ExpandFault}
 use Rattle.inc_expand.specs.declared.pastes.Joiner.{Joiner}
+use Rattle.inc_expand.specs.declared.rules.Rule.{Rule}
 use Rattle.inc_expand.specs.Sets.{Sets, size, Keeps}
 use Rattle.inc_expand.specs.Elements.{Element}
-use Rattle.inc_expand.specs.Expansion.{Carrier, Argument, Part, paste_from, substituted}
+use Rattle.inc_expand.specs.Expansion.{Carrier, Argument, Part, joined, paste_from}
 use Rattle.inc_expand.specs.Carriers.{carriers, AreKnown}
 use Rattle.inc_expand.specs.Arguments.{ArgumentValue, argument_values, AreKnownIn}
 use Rattle.inc_expand.specs.Joins.{put_before, rest_of, IsKnown}
@@ -33,27 +34,27 @@ nothing-before (Ok ts) = refl
 nothing-before (Err fault) = refl
 
 -- the places before i are passed, with so many of the strings
-pub record IsJoined (u now : Sets) (as' : List ArgumentValue) (es : List Element) (strings : List Carried) (i at : ℕ) (j : Joiner) : Type 0 where
+pub record IsJoined (rule : Rule) (u now : Sets) (as' : List ArgumentValue) (es : List Element) (strings : List Carried) (i at : ℕ) (j : Joiner) : Type 0 where
   -- the sets of before are still there
   pub keeps : Keeps u now
   -- what is left gives what the whole would give
   pub rest : rest_of now j (parts_with (argument_values u as') (carriers u (drop at strings)) (drop i es))
-      ≡ paste_from false None (parts_with (argument_values u as') (carriers u strings) es)
+      ≡ paste_from rule false None (parts_with (argument_values u as') (carriers u strings) es)
   -- what is being joined is known to the sets
   pub known : IsKnown (size now) j
   -- no more strings were taken than there are
   pub within : at ≤ length strings
 
-pub joined-none : (u : Sets) (as' : List ArgumentValue) (es : List Element) (strings : List Carried) (j : Joiner) →
-    ((s : Sets) (parts : List Part) → rest_of s j parts ≡ put_before [] (paste_from false None parts)) → ((n : ℕ) → IsKnown n j) → IsJoined u u as' es strings 0 0 j
-joined-none u as' es strings j h k = record {
+pub joined-none : (rule : Rule) (u : Sets) (as' : List ArgumentValue) (es : List Element) (strings : List Carried) (j : Joiner) →
+    ((s : Sets) (parts : List Part) → rest_of s j parts ≡ put_before [] (paste_from rule false None parts)) → ((n : ℕ) → IsKnown n j) → IsJoined rule u u as' es strings 0 0 j
+joined-none rule u as' es strings j h k = record {
   keeps = keeps-itself u;
   rest = h u (parts_with (argument_values u as') (carriers u strings) es) ∙ nothing-before _;
   known = k (size u);
   within = omega arith;
 }
 
-module _ (u now : Sets) (as' : List ArgumentValue) (es : List Element) (strings : List Carried) (i at : ℕ) (j : Joiner) (p : IsJoined u now as' es strings i at j)
+module _ (rule : Rule) (u now : Sets) (as' : List ArgumentValue) (es : List Element) (strings : List Carried) (i at : ℕ) (j : Joiner) (p : IsJoined rule u now as' es strings i at j)
     (args_known : AreKnownIn (size u) as') (strings_known : (s : Sets) → AreKnown (size s) strings) (e : Element) (here : slice_get es i ≡ Some e) where
   same-parts : (k : ℕ) (rest : List Element) → parts_with (argument_values now as') (carriers now (drop k strings)) rest ≡ parts_with (argument_values u as') (carriers u (drop k strings)) rest
   same-parts k rest =
@@ -61,7 +62,7 @@ module _ (u now : Sets) (as' : List ArgumentValue) (es : List Element) (strings 
       (same-carriers u now p.keeps (drop k strings) (known-drop (size u) k strings (strings_known u)))
 
   before : rest_of now j (parts_with (argument_values now as') (carriers now (drop at strings)) (e ∷ drop (i + 1) es))
-      ≡ paste_from false None (parts_with (argument_values u as') (carriers u strings) es)
+      ≡ paste_from rule false None (parts_with (argument_values u as') (carriers u strings) es)
   before =
       ap (rest_of now j) (same-parts at (e ∷ drop (i + 1) es))
       ∙ ap (λ rest. rest_of now j (parts_with (argument_values u as') (carriers u (drop at strings)) rest)) (sym (place-at es i e here)) ∙ p.rest
@@ -69,7 +70,7 @@ module _ (u now : Sets) (as' : List ArgumentValue) (es : List Element) (strings 
   pub joined-more : (new : Sets) (after : ℕ) (k : Joiner) → Keeps now new → IsKnown (size new) k → after ≤ length strings →
       ((rest : List Element) → rest_of new k (parts_with (argument_values now as') (carriers now (drop after strings)) rest)
       ≡ rest_of now j (parts_with (argument_values now as') (carriers now (drop at strings)) (e ∷ rest))) →
-      IsJoined u new as' es strings (i + 1) after k
+      IsJoined rule u new as' es strings (i + 1) after k
   joined-more new after k keeps known within h = record {
     keeps = keeps-more u now new p.keeps keeps;
     rest = ap (rest_of new k) (sym (same-parts after (drop (i + 1) es))) ∙ h (drop (i + 1) es) ∙ before;
@@ -79,20 +80,20 @@ module _ (u now : Sets) (as' : List ArgumentValue) (es : List Element) (strings 
 
   pub joined-fault : (fault : ExpandFault) →
       ((rest : List Element) → rest_of now j (parts_with (argument_values now as') (carriers now (drop at strings)) (e ∷ rest)) ≡ Err fault) →
-      paste_from false None (parts_with (argument_values u as') (carriers u strings) es) ≡ Err fault
+      paste_from rule false None (parts_with (argument_values u as') (carriers u strings) es) ≡ Err fault
   joined-fault fault h = sym before ∙ h (drop (i + 1) es)
 
-pub joined-all : (u now : Sets) (as' : List ArgumentValue) (es : List Element) (strings : List Carried) (i at : ℕ) (j : Joiner) → IsJoined u now as' es strings i at j →
-    length es ≤ i → (r : Result (List Carrier) ExpandFault) → rest_of now j [] ≡ r → paste_from false None (parts_with (argument_values u as') (carriers u strings) es) ≡ r
-joined-all u now as' es strings i at j p l r h =
+pub joined-all : (rule : Rule) (u now : Sets) (as' : List ArgumentValue) (es : List Element) (strings : List Carried) (i at : ℕ) (j : Joiner) → IsJoined rule u now as' es strings i at j →
+    length es ≤ i → (r : Result (List Carrier) ExpandFault) → rest_of now j [] ≡ r → paste_from rule false None (parts_with (argument_values u as') (carriers u strings) es) ≡ r
+joined-all rule u now as' es strings i at j p l r h =
     sym p.rest ∙ ap (λ rest. rest_of now j (parts_with (argument_values u as') (carriers u (drop at strings)) rest)) (drop_all i es l) ∙ h
 
 -- the strings come first
-pub substituted-is : (args : List Argument) (es : List Element) (ts : List Carrier) → made_strings args es ≡ Ok ts →
-    substituted args es ≡ paste_from false None (parts_with args ts es)
-substituted-is args es ts h =
-    ap (λ r. r >>= (λ ps. paste_from false None ps)) (strings-first args es ∙ ap (λ r. r >>= (λ x. Ok (parts_with args x es))) h)
+pub joined-is : (rule : Rule) (args : List Argument) (es : List Element) (ts : List Carrier) → made_strings args es ≡ Ok ts →
+    joined rule args es ≡ paste_from rule false None (parts_with args ts es)
+joined-is rule args es ts h =
+    ap (λ r. r >>= (λ ps. paste_from rule false None ps)) (strings-first args es ∙ ap (λ r. r >>= (λ x. Ok (parts_with args x es))) h)
 
-pub substituted-fault : (args : List Argument) (es : List Element) (fault : ExpandFault) → made_strings args es ≡ Err fault → substituted args es ≡ Err fault
-substituted-fault args es fault h =
-    ap (λ r. r >>= (λ ps. paste_from false None ps)) (strings-first args es ∙ ap (λ r. r >>= (λ x. Ok (parts_with args x es))) h)
+pub strings-fault : (rule : Rule) (args : List Argument) (es : List Element) (fault : ExpandFault) → made_strings args es ≡ Err fault → joined rule args es ≡ Err fault
+strings-fault rule args es fault h =
+    ap (λ r. r >>= (λ ps. paste_from rule false None ps)) (strings-first args es ∙ ap (λ r. r >>= (λ x. Ok (parts_with args x es))) h)

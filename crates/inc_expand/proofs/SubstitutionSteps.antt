@@ -1,16 +1,18 @@
 -- A substitution, place by place.
-use Rattle.std.proofs.Common.{◌≡◌, ℕ, zero, suc, ◌+◌, ◌<◌, ◌≤◌, Bool, true, List, [], ◌∷◌, ◌++◌, map, length, drop, get_or, slice_get, Some, Result, Ok, Err, refl, sym, ap, ◌∙◌, arith, append_assoc}
+use Rattle.std.proofs.Common.{◌≡◌, ℕ, zero, suc, ◌+◌, ◌<◌, ◌≤◌, Bool, true, List, [], ◌∷◌, ◌++◌, map, length, drop, get_or, slice_get, None, Some, Bor, Result, Ok, Err, refl, sym, ap, ◌∙◌, arith, append_assoc}
 use Rattle.std.proofs.lemmas.List.{map-append, drop_all, append-nil}
 use Rattle.inc_macro.specs.Results.{◌>>=◌}
 use Rattle.inc_expand.specs.declared.carried.Carried.{Carried}
 use Rattle.inc_expand.specs.declared.faults.ExpandFault.{ExpandFault}
 use Rattle.inc_expand.specs.declared.body_elements.Word.{Word as WordStruct}
 use Rattle.inc_expand.specs.declared.body_elements.Element.{Element as ElementEnum}
-use Rattle.inc_expand.specs.declared.body_elements.Element.TheVariants.{Word as AWord, StringOf as AStringOf, AsWritten as AnAsWritten, Expanded as AnExpanded, Comma as AComma}
-use Rattle.inc_expand.specs.ElementValues.{word_value, element_value}
+use Rattle.inc_expand.specs.declared.body_elements.Element.TheVariants.{Word as AWord, StringOf as AStringOf, AsWritten as AnAsWritten, Expanded as AnExpanded, Comma as AComma, Kept as AKept}
+use Rattle.inc_expand.specs.declared.body_elements.Place.{Place as PlaceEnum}
+use Rattle.inc_expand.specs.declared.body_elements.Place.TheVariants.{Made as AMade}
+use Rattle.inc_expand.specs.ElementValues.{word_value, element_value, place_value}
 use Rattle.inc_expand.specs.Sets.{Sets}
-use Rattle.inc_expand.specs.Elements.{Element, Word, Glue, Silent, StringOf, AsWritten, Expanded, Comma}
-use Rattle.inc_expand.specs.Expansion.{Carrier, Argument, Part, Paste, as_part, of_body, operand, spaced, string_of, argument_at, comma_part, all_parts, unexpanded}
+use Rattle.inc_expand.specs.Elements.{Element, Word, Glue, Silent, StringOf, AsWritten, Expanded, Comma, Optional, Kept, Empty, Made}
+use Rattle.inc_expand.specs.Expansion.{Carrier, Argument, Part, Paste, Piece, as_part, of_body, operand, spaced, string_of, argument_at, comma_part, all_parts, made_string, unexpanded}
 use Rattle.inc_expand.specs.Carriers.{carrier, carriers, AreKnown}
 use Rattle.inc_expand.specs.Arguments.{ArgumentValue, argument_value, argument_values, AreKnownIn}
 use Rattle.inc_expand.specs.Joins.{put_before}
@@ -114,6 +116,12 @@ strings-first args (Expanded space n ∷ es) =
     plain-first (map as_part (spaced space (argument_at args n).expanded)) (made_strings args es) (λ ts. parts_with args ts es) (all_parts args es) (strings-first args es)
 strings-first args (Comma b n ∷ es) =
     plain-first (comma_part (argument_at args n).given b ∷ []) (made_strings args es) (λ ts. parts_with args ts es) (all_parts args es) (strings-first args es)
+strings-first args (Optional hash n ∷ es) = plain-first [] (made_strings args es) (λ ts. parts_with args ts es) (all_parts args es) (strings-first args es)
+strings-first args (Kept space n ∷ es) =
+    plain-first (operand (spaced space (argument_at args n).expanded)) (made_strings args es) (λ ts. parts_with args ts es) (all_parts args es) (strings-first args es)
+strings-first args (Empty ∷ es) = plain-first (Piece None ∷ []) (made_strings args es) (λ ts. parts_with args ts es) (all_parts args es) (strings-first args es)
+strings-first args (Made space text ∷ es) =
+    plain-first (as_part (made_string space text) ∷ []) (made_strings args es) (λ ts. parts_with args ts es) (all_parts args es) (strings-first args es)
 
 ---- one place, where `all` gives all tokens from the parts that are left
 
@@ -140,6 +148,16 @@ module _ (all after : List Part → Result (List Carrier) ExpandFault) (args : L
       ((ps : List Part) → after ps ≡ all (map as_part (spaced space tokens) ++ ps)) → after (parts_with args ts es) ≡ all (parts_with args ts (element_value e ∷ es))
   expanded-passed ts e space n tokens is same h =
       h (parts_with args ts es) ∙ ap (λ x. all (map as_part (spaced space x) ++ parts_with args ts es)) same ∙ ap (λ x. all (parts_with args ts (element_value x ∷ es))) (sym is)
+
+  pub kept-passed : (ts : List Carrier) (e : ElementEnum) (space : Bool) (n : ℕ) (tokens : List Carrier) → e ≡ AKept space n → tokens ≡ (argument_at args n).expanded →
+      ((ps : List Part) → after ps ≡ all (operand (spaced space tokens) ++ ps)) → after (parts_with args ts es) ≡ all (parts_with args ts (element_value e ∷ es))
+  kept-passed ts e space n tokens is same h =
+      h (parts_with args ts es) ∙ ap (λ x. all (operand (spaced space x) ++ parts_with args ts es)) same ∙ ap (λ x. all (parts_with args ts (element_value x ∷ es))) (sym is)
+
+  pub made-passed : (ts : List Carrier) (e : PlaceEnum) (space : Bool) (bytes : Bor (List ℕ)) (t : Carrier) → e ≡ AMade space bytes → t ≡ made_string space bytes.now →
+      ((ps : List Part) → after ps ≡ all (as_part t ∷ ps)) → after (parts_with args ts es) ≡ all (parts_with args ts (place_value e ∷ es))
+  made-passed ts e space bytes t is same h =
+      h (parts_with args ts es) ∙ ap (λ c. all (as_part c ∷ parts_with args ts es)) same ∙ ap (λ x. all (parts_with args ts (place_value x ∷ es))) (sym is)
 
   pub comma-passed : (ts : List Carrier) (e : ElementEnum) (w : WordStruct) (n : ℕ) (given : Bool) → e ≡ AComma w n → given ≡ (argument_at args n).given →
       ((ps : List Part) → after ps ≡ all (comma_part given (word_value w) ∷ ps)) → after (parts_with args ts es) ≡ all (parts_with args ts (element_value e ∷ es))

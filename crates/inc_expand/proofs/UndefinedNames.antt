@@ -8,7 +8,7 @@ use Rattle.inc_macro.proofs.UndefinedNames.{Lacks}
 use Rattle.inc_expand.specs.declared.faults.ExpandFault.{ExpandFault}
 use Rattle.inc_expand.specs.declared.places.Mode.{Mode}
 use Rattle.inc_expand.specs.declared.places.Mode.TheVariants.{Plain}
-use Rattle.inc_expand.specs.Expansion.{Carrier, Item, Passes, Surroundings, Meter, all_levels, case_of, expansion, is_asking, item_of, levels, macro_case, name_case, of_source, treated}
+use Rattle.inc_expand.specs.Expansion.{Carrier, Item, Passes, Surroundings, Meter, all_levels, case_of, expansion, is_asking, item_of, levels, macro_case, name_case, of_source, treated, rule_in}
 use Rattle.inc_expand.proofs.ExpansionSteps.{one_step}
 
 -- outside conditions such a name passes alone
@@ -26,7 +26,7 @@ BeginWith t r = IfOk r (λ x. (more : List Carrier) × (x.0 ≡ t ∷ more))
 
 levels_begin : (s : Surroundings) (n : ℕ) (meter : Meter) (t : Carrier) (ts : List Carrier) → case_of s t ts ≡ Passes (t ∷ []) ts → BeginWith t (levels s (suc n) meter (t ∷ ts))
 levels_begin s n meter t ts is =
-    subst (BeginWith t) (sym (one_step s n meter t ts ∙ ap (treated (levels s n) (levels s (suc n)) t meter ts) is)) (after (levels s (suc n) meter ts))
+    subst (BeginWith t) (sym (one_step s n meter t ts ∙ ap (treated (rule_in s) (levels s n) (levels s (suc n)) t meter ts) is)) (after (levels s (suc n) meter ts))
   where
     after : (r : Result (List Carrier × Meter) ExpandFault) → BeginWith t (r >>= (λ x. Ok ((t ∷ []) ++ x.0, x.1)))
     after (Ok x) = (x.0, refl)

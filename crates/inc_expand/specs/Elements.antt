@@ -2,7 +2,7 @@
 -- (ISO/IEC 9899:2018, 6.10.3.1 to 6.10.3.3).
 use Rattle.std.specs.Prelude.{ℕ, Bool, List, [], ◌∷◌, Option, Some, None}
 use Rattle.inc_macro.specs.declared.roles.Role.{Role}
-use Rattle.inc_macro.specs.declared.roles.Role.TheVariants.{Itself, Paste as PasteRole, Hash as HashRole, AsWritten as WrittenRole, Expanded as ExpandedRole, Comma as CommaRole, Nothing as NothingRole}
+use Rattle.inc_macro.specs.declared.roles.Role.TheVariants.{Itself, Paste as PasteRole, Hash as HashRole, AsWritten as WrittenRole, Expanded as ExpandedRole, Comma as CommaRole, Nothing as NothingRole, Optional as OptionalRole}
 use Rattle.inc_macro.specs.Macros.{BodyToken, Definition}
 use Rattle.inc_macro.specs.Roles.{roles_of}
 
@@ -22,6 +22,15 @@ pub data Element : Type 0 where
   Expanded : (space : Bool) → ℕ → Element
   -- a `,` that stands unless these variable arguments are left out
   Comma : BodyToken → ℕ → Element
+  -- `__VA_OPT__` of GNU C, with whether white space is before the `#`, where one is right before it: what is in the parentheses after it
+  -- stands where these variable arguments have tokens. The places below stand for it, and for what is in its parentheses
+  Optional : (hash : Option Bool) → ℕ → Element
+  -- a parameter at an ordinary place of these parentheses: a placemarker, where its argument expands to nothing
+  Kept : (space : Bool) → ℕ → Element
+  -- a placemarker
+  Empty : Element
+  -- a string that `#` made of what is in the parentheses
+  Made : (space : Bool) → List ℕ → Element
 
 -- the element at a place by the role of its token; hash: whether white space is before the operator `#`, where it
 -- is right before
@@ -34,6 +43,7 @@ element (Some space) b (WrittenRole n) = StringOf space n
 element hash b (ExpandedRole n) = Expanded b.space n
 element hash b (CommaRole n) = Comma b n
 element hash b NothingRole = Silent
+element hash b (OptionalRole n) = Optional hash n
 
 -- whether white space is before the token, where it is the operator `#`
 abbrev pub hash_of : BodyToken → Role → Option Bool

@@ -1,4 +1,4 @@
--- Macro expansion (ISO/IEC 9899:2018, 6.10.3.1 to 6.10.3.4 and 6.10.8). Which names a token hides is after Prosser.
+-- Macro expansion (ISO/IEC 9899:2018, 6.10.3.1 to 6.10.3.4 and 6.10.8). Which names a token hides is after Prosser, and in GNU C after gcc.
 -- Choices of this profile: the order of faults, the order in which arguments are expanded, `##` from left to right, white space and lines of what replaces, what
 -- `__STDC_HOSTED__` is, `defined` in a controlling expression, the budget and the limits.
 use Rattle.std.specs.Prelude.{ℕ, zero, suc, ◌+◌, ◌-◌, ◌%◌, ◌==◌, ◌&&◌, ◌||◌, not, Bool, true, false, List, [], ◌∷◌, ◌++◌, Option, Some, None, Result, Ok, Err, if◌then◌else◌, length, map, take, drop, nat_lt, get_or, codes, bytes_eq, decimal, ℤ, pos, ◌+ℤ◌, nat_abs, is_some, option_map, find}
@@ -8,14 +8,16 @@ use Rattle.inc_token.specs.declared.kinds.Kind.TheVariants.{Number, Char, Str}
 use Rattle.inc_token.specs.Spellings.{class_of}
 use Rattle.inc_token.specs.TokenLines.{Tok}
 use Rattle.inc_macro.specs.Results.{◌>>=◌}
-use Rattle.inc_token.specs.declared.kinds.Language.{Language}
-use Rattle.inc_token.specs.declared.kinds.Language.TheVariants.{Gnu}
-use Rattle.inc_macro.specs.Macros.{asks_headers, BodyToken, Params, Definition, Table, definition_of, is_among, parameter_names, is_identifier_kind, predefined_names}
+use Rattle.inc_text.specs.declared.languages.Language.{Language}
+use Rattle.inc_text.specs.declared.languages.Language.TheVariants.{C17, Gnu}
+use Rattle.inc_macro.specs.Macros.{asks_headers, BodyToken, Params, Definition, Table, definition_of, is_among, is_match, depth_at, parameter_names, is_identifier_kind, predefined_names}
 use Rattle.inc_expand.specs.declared.faults.ExpandFault.{ExpandFault}
 use Rattle.inc_expand.specs.declared.faults.ExpandFault.TheVariants.{UnclosedCall, ArgumentCount, BadString, BadPaste, TokenTooLong, OverBudget}
 use Rattle.inc_expand.specs.declared.places.Mode.{Mode}
 use Rattle.inc_expand.specs.declared.places.Mode.TheVariants.{Plain, Condition}
-use Rattle.inc_expand.specs.Elements.{Element, Word, Glue, Silent, StringOf, AsWritten, Expanded, Comma, elements_of}
+use Rattle.inc_expand.specs.Elements.{Element, Word, Glue, Silent, StringOf, AsWritten, Expanded, Comma, Optional, Kept, Empty, Made, elements_of}
+use Rattle.inc_expand.specs.declared.rules.Rule.{Rule}
+use Rattle.inc_expand.specs.declared.rules.Rule.TheVariants.{BySets, ByContexts}
 use Rattle.inc_expand.specs.declared.strings.TheConstants.{LONGEST}
 
 -- where the tokens are, and when
@@ -88,6 +90,32 @@ intersection a b n = a n && b n
 -- the set of one name
 abbrev pub only : List ℕ → Names
 only m n = bytes_eq n m
+
+---- which names a token hides (6.10.3.4)
+
+-- the rule of a language. By sets a token hides each name whose replacement it came from, for good. By contexts, as in gcc, it hides the names
+-- in whose replacement it stands, and for good only its own: where that is met in its own replacement the token is painted. The two part
+-- where a call ends behind the replacement that its name is in, and where an argument is taken out of a replacement
+abbrev pub rule_of : Language → Rule
+rule_of Gnu = ByContexts
+rule_of _ = BySets
+
+abbrev pub rule_in : Surroundings → Rule
+rule_in s = rule_of s.table.language
+
+-- an identifier that hides its own name is not replaced
+abbrev pub is_painted : Carrier → Bool
+is_painted t = is_identifier_kind t.kind && t.hidden t.spelling
+
+-- what a token hides that goes to a place where these names are hidden
+abbrev pub hidden_at : Rule → Names → Carrier → Names
+hidden_at BySets names t = union names t.hidden
+hidden_at ByContexts names t = if is_painted t then t.hidden else names
+
+-- what a token hides that `##` makes of two which hide these
+abbrev pub hidden_by_paste : Rule → Names → Names → Names
+hidden_by_paste BySets a b = intersection a b
+hidden_by_paste ByContexts a b = no_names
 
 ---- tests of a token
 
@@ -169,6 +197,11 @@ pub record Call : Type 0 where
   pub inside : List Carrier
   pub close : Carrier
   pub rest : List Carrier
+
+-- the tokens of a call whose `)` hides these names. By contexts they are taken to where the `)` is
+abbrev pub taken : Rule → Names → List Carrier → List Carrier
+taken BySets names ts = ts
+taken ByContexts names ts = map (λ (t : Carrier). record t { hidden = hidden_at ByContexts names t }) ts
 
 -- how many parentheses are open after a token
 abbrev pub depth_after : ℕ → Carrier → ℕ
@@ -269,23 +302,27 @@ fits text = if nat_lt longest_made (length text) then Err TokenTooLong else Ok t
 abbrev pub string_of : (space : Bool) → List Carrier → Result Carrier ExpandFault
 string_of space written =
     fits (in_quotes (spelled (spaced false written))) >>= λ text.
-    if is_str (class_of text)
+    if is_str (class_of C17 text)
     then Ok (record { kind = Str; spelling = text; line = 0; space = space; hidden = no_names })
     else Err BadString
 
--- the class of a token that `##` makes
+-- a string that was made before
+abbrev pub made_string : (space : Bool) → List ℕ → Carrier
+made_string space text = record { kind = Str; spelling = text; line = 0; space = space; hidden = no_names }
+
+-- the class of a token that `##` makes, in C17: none has a $ but in a literal
 abbrev pub kind_or_bad : Option Kind → Result Kind ExpandFault
 kind_or_bad None = Err BadPaste
 kind_or_bad (Some kind) = Ok kind
 
 abbrev pub made_kind : List ℕ → Result Kind ExpandFault
-made_kind text = fits text >>= λ t. kind_or_bad (class_of t)
+made_kind text = fits text >>= λ t. kind_or_bad (class_of C17 t)
 
 -- the token that `##` makes of two
-abbrev pub pasted_token : Carrier → Carrier → Result Carrier ExpandFault
-pasted_token a b =
+abbrev pub pasted_token : Rule → Carrier → Carrier → Result Carrier ExpandFault
+pasted_token rule a b =
     made_kind (a.spelling ++ b.spelling) >>= λ kind.
-    Ok (record { kind = kind; spelling = a.spelling ++ b.spelling; line = 0; space = a.space; hidden = intersection a.hidden b.hidden })
+    Ok (record { kind = kind; spelling = a.spelling ++ b.spelling; line = 0; space = a.space; hidden = hidden_by_paste rule a.hidden b.hidden })
 
 -- an argument beside `##`
 abbrev pub operand : List Carrier → List Part
@@ -306,6 +343,10 @@ parts_of args (StringOf space n) = string_of space (argument_at args n).written 
 parts_of args (AsWritten space n) = Ok (operand (spaced space (argument_at args n).written))
 parts_of args (Expanded space n) = Ok (map as_part (spaced space (argument_at args n).expanded))
 parts_of args (Comma b n) = Ok (comma_part (argument_at args n).given b ∷ [])
+parts_of args (Optional hash n) = Ok []
+parts_of args (Kept space n) = Ok (operand (spaced space (argument_at args n).expanded))
+parts_of args Empty = Ok (Piece None ∷ [])
+parts_of args (Made space text) = Ok (as_part (made_string space text) ∷ [])
 
 -- the `#` operands made and the parameters replaced, from left to right
 abbrev pub all_parts : List Argument → List Element → Result (List Part) ExpandFault
@@ -318,25 +359,76 @@ tokens_of None = []
 tokens_of (Some t) = t ∷ []
 
 -- one `##`: a placemarker leaves the other side as it is
-abbrev pub pasted : Option Carrier → Option Carrier → Result (Option Carrier) ExpandFault
-pasted None b = Ok b
-pasted (Some a) None = Ok (Some a)
-pasted (Some a) (Some b) = pasted_token a b >>= λ t. Ok (Some t)
+abbrev pub pasted : Rule → Option Carrier → Option Carrier → Result (Option Carrier) ExpandFault
+pasted rule None b = Ok b
+pasted rule (Some a) None = Ok (Some a)
+pasted rule (Some a) (Some b) = pasted_token rule a b >>= λ t. Ok (Some t)
 
 -- each `##` from left to right, then placemarkers dropped; p: the part before, joins: a `##` is right after it
-abbrev pub paste_from : (joins : Bool) (p : Option Carrier) → List Part → Result (List Carrier) ExpandFault
-paste_from joins p [] = Ok (tokens_of p)
-paste_from joins p (Paste ∷ rest) = paste_from true p rest
-paste_from false p (Piece q ∷ rest) = paste_from false q rest >>= λ ts. Ok (tokens_of p ++ ts)
-paste_from true p (Piece q ∷ rest) = pasted p q >>= λ r. paste_from false r rest
+abbrev pub paste_from : Rule → (joins : Bool) (p : Option Carrier) → List Part → Result (List Carrier) ExpandFault
+paste_from rule joins p [] = Ok (tokens_of p)
+paste_from rule joins p (Paste ∷ rest) = paste_from rule true p rest
+paste_from rule false p (Piece q ∷ rest) = paste_from rule false q rest >>= λ ts. Ok (tokens_of p ++ ts)
+paste_from rule true p (Piece q ∷ rest) = pasted rule p q >>= λ r. paste_from rule false r rest
+
+-- these steps one after the other, each on the whole list
+abbrev pub joined : Rule → List Argument → List Element → Result (List Carrier) ExpandFault
+joined rule args es = all_parts args es >>= λ ps. paste_from rule false None ps
+
+---- `__VA_OPT__( )` of GNU C (ISO/IEC 9899:2024, 6.10.5.1)
+
+-- the spelling of a token that stands for itself
+abbrev pub own_spelling : Element → List ℕ
+own_spelling (Word b) = b.spelling
+own_spelling _ = []
+
+-- a place of its parentheses. As in gcc an argument that expands to nothing is a placemarker there
+abbrev pub kept : Element → Element
+kept (Expanded space n) = Kept space n
+kept e = e
+
+-- the places after its `(`, up to the matching `)`; deep: how many inner parentheses are open
+abbrev pub inside : (deep : ℕ) → List Element → List Element
+inside deep [] = []
+inside deep (e ∷ es) = if is_match deep (own_spelling e) then [] else kept e ∷ inside (depth_at deep (own_spelling e)) es
+
+-- the argument expands to some tokens
+abbrev pub has_tokens : List Argument → ℕ → Bool
+has_tokens args n = nat_lt 0 (length (argument_at args n).expanded)
+
+-- no places are a placemarker
+abbrev pub or_empty : List Element → List Element
+or_empty [] = Empty ∷ []
+or_empty (e ∷ es) = e ∷ es
+
+-- what stands for these places: for `#` before `__VA_OPT__` a string, in which it does not matter what a token hides
+abbrev pub standing : List Argument → (hash : Option Bool) → List Element → Result (List Element) ExpandFault
+standing args None es = Ok (or_empty es)
+standing args (Some space) es = joined BySets args es >>= λ ts. string_of space ts >>= λ t. Ok (Made space t.spelling ∷ [])
+
+-- what stands for the first of some places, where these come after it
+abbrev pub stands : List Argument → Element → List Element → Result (List Element) ExpandFault
+stands args (Optional hash n) es = standing args hash (if has_tokens args n then inside 0 (drop 1 es) else [])
+stands args e es = Ok (e ∷ [])
+
+-- how many of those after it go with it
+abbrev pub goes_with : Element → List Element → ℕ
+goes_with (Optional hash n) es = 2 + length (inside 0 (drop 1 es))
+goes_with e es = 0
+
+-- the places that stand; skip: how many of the next ones went with one before
+abbrev pub chosen : List Argument → (skip : ℕ) → List Element → Result (List Element) ExpandFault
+chosen args skip [] = Ok []
+chosen args (suc k) (e ∷ es) = chosen args k es
+chosen args zero (e ∷ es) = stands args e es >>= λ cs. chosen args (goes_with e es) es >>= λ rest. Ok (cs ++ rest)
 
 -- the steps one after the other, each on the whole list
-abbrev pub substituted : List Argument → List Element → Result (List Carrier) ExpandFault
-substituted args es = all_parts args es >>= λ ps. paste_from false None ps
+abbrev pub substituted : Rule → List Argument → List Element → Result (List Carrier) ExpandFault
+substituted rule args es = chosen args 0 es >>= λ cs. joined rule args cs
 
--- as what replaces t: the first token spaced as t, each on its line and with these names added to its set
-abbrev pub replacing : Carrier → Names → List Carrier → List Carrier
-replacing t names ts = spaced t.space (map (λ (p : Carrier). record p { line = t.line; hidden = union names p.hidden }) ts)
+-- as what replaces t: the first token spaced as t, each on its line and with these names hidden
+abbrev pub replacing : Rule → Carrier → Names → List Carrier → List Carrier
+replacing rule t names ts = spaced t.space (map (λ (p : Carrier). record p { line = t.line; hidden = hidden_at rule names p }) ts)
 
 ---- the front token's six cases
 
@@ -436,10 +528,11 @@ text_of meter Count = decimal meter.counter
 abbrev pub Expander : Type 0
 Expander = Meter → List Carrier → Result (List Carrier × Meter) ExpandFault
 
--- the parameter is at an ordinary place of the body
+-- the parameter is at an ordinary place of the body, or `__VA_OPT__` asks whether it has tokens
 abbrev pub is_expanded_in : List Element → ℕ → Bool
 is_expanded_in [] n = false
 is_expanded_in (Expanded space m ∷ es) n = (m == n) || is_expanded_in es n
+is_expanded_in (Optional hash m ∷ es) n = (m == n) || is_expanded_in es n
 is_expanded_in (e ∷ es) n = is_expanded_in es n
 
 -- the argument of parameter n, expanded where the body asks for it
@@ -465,30 +558,30 @@ replaced again meter new rest =
     elim (nat_lt meter.units (1 + length new)) [ true ↦ Err OverBudget | false ↦ again (spent (1 + length new) meter) (new ++ rest) ]
 
 -- a call: its arguments bound, expanded, substituted, and the replacement put before the rest; deeper is one level up
-abbrev pub called : Expander → Expander → Carrier → Meter → Definition → Params → Option Call → Result (List Carrier × Meter) ExpandFault
-called deeper again t meter d p None = Err UnclosedCall
-called deeper again t meter d p (Some c) =
-    bound p c.inside >>= λ args.
+abbrev pub called : Rule → Expander → Expander → Carrier → Meter → Definition → Params → Option Call → Result (List Carrier × Meter) ExpandFault
+called rule deeper again t meter d p None = Err UnclosedCall
+called rule deeper again t meter d p (Some c) =
+    bound p (taken rule c.close.hidden c.inside) >>= λ args.
     expanded_arguments deeper (elements_of d) meter 0 args >>= λ e.
-    substituted e.0 (elements_of d) >>= λ new.
-    replaced again e.1 (replacing t (union (only d.name) (intersection t.hidden c.close.hidden)) new) c.rest
+    substituted rule e.0 (elements_of d) >>= λ new.
+    replaced again e.1 (replacing rule t (union (only d.name) (intersection t.hidden c.close.hidden)) new) c.rest
 
 -- the front token by its case; again goes on with the list after it
-abbrev pub treated : Expander → Expander → Carrier → Meter → (rest : List Carrier) → Case → Result (List Carrier × Meter) ExpandFault
-treated deeper again t meter _ (Passes front rest) = again meter rest >>= λ r. Ok (front ++ r.0, r.1)
-treated deeper again t meter rest (IsPredefined kind content) =
+abbrev pub treated : Rule → Expander → Expander → Carrier → Meter → (rest : List Carrier) → Case → Result (List Carrier × Meter) ExpandFault
+treated rule deeper again t meter _ (Passes front rest) = again meter rest >>= λ r. Ok (front ++ r.0, r.1)
+treated rule deeper again t meter rest (IsPredefined kind content) =
     replaced again (counted content meter) (record t { kind = kind; spelling = text_of meter content; hidden = union (only t.spelling) t.hidden } ∷ []) rest
-treated deeper again t meter rest (IsObject d) =
-    substituted [] (elements_of d) >>= λ new.
-    replaced again meter (replacing t (union (only d.name) t.hidden) new) rest
-treated deeper again t meter rest (IsCall d p behind) = called deeper again t meter d p (call_behind 0 behind)
+treated rule deeper again t meter rest (IsObject d) =
+    substituted rule [] (elements_of d) >>= λ new.
+    replaced again meter (replacing rule t (union (only d.name) t.hidden) new) rest
+treated rule deeper again t meter rest (IsCall d p behind) = called rule deeper again t meter d p (call_behind 0 behind)
 
 -- one level. Each step takes a token away, or spends more units than it adds tokens, so that steps above
 -- tokens plus units never run out
 abbrev pub level : Surroundings → Expander → ℕ → Expander
 level s deeper zero meter ts = Err OverBudget
 level s deeper (suc steps) meter [] = Ok ([], meter)
-level s deeper (suc steps) meter (t ∷ ts) = treated deeper (level s deeper steps) t meter ts (case_of s t ts)
+level s deeper (suc steps) meter (t ∷ ts) = treated (rule_in s) deeper (level s deeper steps) t meter ts (case_of s t ts)
 
 -- so many levels: an argument is one level above its call
 abbrev pub levels : Surroundings → ℕ → Expander

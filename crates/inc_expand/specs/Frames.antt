@@ -8,10 +8,11 @@ use Rattle.inc_expand.specs.declared.faults.ExpandFault.{ExpandFault}
 use Rattle.inc_expand.specs.declared.frames.Call.{Call}
 use Rattle.inc_expand.specs.declared.frames.Frame.{Frame}
 use Rattle.inc_expand.specs.declared.frames.Level.{Level}
+use Rattle.inc_expand.specs.declared.rules.Rule.{Rule}
 use Rattle.inc_expand.specs.declared.walks.Work.{Work}
 use Rattle.inc_expand.specs.Sets.{Sets, size, holds, Keeps}
 use Rattle.inc_expand.specs.Elements.{elements_of}
-use Rattle.inc_expand.specs.Expansion.{Argument, Carrier, Meter, Names, Surroundings, argument_at, expanded_arguments, intersection, is_expanded_in, levels}
+use Rattle.inc_expand.specs.Expansion.{Argument, Carrier, Meter, Names, Surroundings, argument_at, expanded_arguments, intersection, is_expanded_in, levels, rule_in}
 use Rattle.inc_expand.specs.Carriers.{carrier, carriers, AreKnown}
 use Rattle.inc_expand.specs.Arguments.{ArgumentValue, argument_values, AreKnownIn}
 use Rattle.inc_expand.specs.Walks.{behind, replacement}
@@ -28,7 +29,7 @@ abbrev pub going_on : Surroundings → (deeper : ℕ) → Definition → Carrier
     (rest : List Carrier) → Result (List Carrier × Meter) ExpandFault
 going_on s deeper d t hidden meter n args rest =
     behind_arguments (take n args) (expanded_arguments (levels s deeper) (elements_of d) meter n (drop n args)) >>= λ x.
-    replacement (levels s (suc deeper)) d x.0 t hidden x.1 rest
+    replacement (rule_in s) (levels s (suc deeper)) d x.0 t hidden x.1 rest
 
 -- the names that the name of a call and its `)` hide
 abbrev pub hidden_by_call : Sets → Call → Names
@@ -134,7 +135,7 @@ pub record ArePassedOn (s : Surroundings) (deeper : ℕ) (old : Call) (from : �
   pub fewer : steps_of (drop at new.args) ≤ steps_of (drop from old.args)
 
 -- a call whose arguments are expanded is replaced
-pub record IsCallReplaced (c : Call) (old new : Work) (rest list : List Carried) : Type 0 where
+pub record IsCallReplaced (rule : Rule) (c : Call) (old new : Work) (rest list : List Carried) : Type 0 where
   -- the sets of before are still there
   pub keeps : Keeps old.sets new.sets
   -- the sets of the new list are in the table
@@ -143,14 +144,14 @@ pub record IsCallReplaced (c : Call) (old new : Work) (rest list : List Carried)
   pub smaller : new.meter.units + length list ≤ old.meter.units + length rest
   -- what goes on with the replacement goes on with the new list
   pub same : (again : Meter → List Carrier → Result (List Carrier × Meter) ExpandFault) →
-      replacement again c.macro_.now (argument_values old.sets c.args) (carrier old.sets c.name)
+      replacement rule again c.macro_.now (argument_values old.sets c.args) (carrier old.sets c.name)
       (hidden_by_call old.sets c) old.meter (carriers old.sets rest)
       ≡ again new.meter (carriers new.sets list)
 
-abbrev pub IsCallRefused : Call → Work → List Carried → ExpandFault → Type 0
-IsCallRefused c old rest fault =
+abbrev pub IsCallRefused : Rule → Call → Work → List Carried → ExpandFault → Type 0
+IsCallRefused rule c old rest fault =
     (again : Meter → List Carrier → Result (List Carrier × Meter) ExpandFault) →
-    replacement again c.macro_.now (argument_values old.sets c.args) (carrier old.sets c.name)
+    replacement rule again c.macro_.now (argument_values old.sets c.args) (carrier old.sets c.name)
     (hidden_by_call old.sets c) old.meter (carriers old.sets rest)
     ≡ Err fault
 

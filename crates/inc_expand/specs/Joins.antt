@@ -34,7 +34,7 @@ put_before front (Err fault) = Err fault
 
 -- all tokens, where these parts are left
 abbrev pub rest_of : Sets → Joiner → List Part → Result (List Carrier) ExpandFault
-rest_of s j parts = put_before (carriers s (tokens_in j.done.items)) (paste_from j.joins (before_of s j.text.items j.before) parts)
+rest_of s j parts = put_before (carriers s (tokens_in j.done.items)) (paste_from j.rule j.joins (before_of s j.text.items j.before) parts)
 
 abbrev pub IsKnownBefore : ℕ → LeftSide → Type 0
 IsKnownBefore n Nothing = ⊤

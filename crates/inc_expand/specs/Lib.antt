@@ -10,6 +10,7 @@ pub mod Slots
 pub mod Places
 pub mod Joins
 pub mod ElementValues
+pub mod Optionals
 pub mod Substitutions
 pub mod Items
 pub mod Puts
@@ -20,3 +21,4 @@ pub mod Frames
 pub mod SpelledItems
 pub mod Sinks
 pub mod Streams
+pub mod Contexts

@@ -1,6 +1,7 @@
 -- Bodies without `#` and `##`: what stands for a place is a token of the body, or those of an expanded argument.
 use Rattle.std.specs.Prelude.{◌≡◌, ℕ, Bool, true, false, List, [], ◌∷◌, ◌++◌, map, Some, slice_get}
 use Rattle.inc_expand.specs.declared.carried.Carried.{Carried}
+use Rattle.inc_expand.specs.declared.rules.Rule.{Rule}
 use Rattle.inc_expand.specs.Sets.{Sets, size, holds, Keeps}
 use Rattle.inc_expand.specs.Elements.{Element, Word, Expanded}
 use Rattle.inc_expand.specs.Expansion.{Argument, Carrier, argument_at, of_body, spaced}
@@ -27,7 +28,7 @@ plain_tokens args [] = []
 plain_tokens args (e ∷ es) = tokens_at args e ++ plain_tokens args es
 
 -- tokens are before a list, on this line and with the names of this set; the table of sets has grown
-pub record IsLaid (old new : Sets) (line names : ℕ) (tokens : List Carrier) (before after : List Carried) : Type 0 where
+pub record IsLaid (rule : Rule) (old new : Sets) (line names : ℕ) (tokens : List Carrier) (before after : List Carried) : Type 0 where
   pub keeps : Keeps old new
-  pub list : carriers new after ≡ map (moved line (holds old names)) tokens ++ carriers old before
+  pub list : carriers new after ≡ map (moved rule line (holds old names)) tokens ++ carriers old before
   pub known : AreKnown (size new) after

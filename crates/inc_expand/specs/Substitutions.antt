@@ -1,9 +1,9 @@
 -- A substitution in the program's order: first each string that `#` makes, then the parts with these strings.
-use Rattle.std.specs.Prelude.{List, [], ◌∷◌, ◌++◌, map, Result, Ok}
+use Rattle.std.specs.Prelude.{List, [], ◌∷◌, ◌++◌, None, map, Result, Ok}
 use Rattle.inc_macro.specs.Results.{◌>>=◌}
 use Rattle.inc_expand.specs.declared.faults.ExpandFault.{ExpandFault}
-use Rattle.inc_expand.specs.Elements.{Element, Word, Glue, Silent, StringOf, AsWritten, Expanded, Comma}
-use Rattle.inc_expand.specs.Expansion.{Carrier, Argument, Part, Paste, as_part, of_body, operand, spaced, string_of, argument_at, comma_part}
+use Rattle.inc_expand.specs.Elements.{Element, Word, Glue, Silent, StringOf, AsWritten, Expanded, Comma, Optional, Kept, Empty, Made}
+use Rattle.inc_expand.specs.Expansion.{Carrier, Argument, Part, Paste, Piece, as_part, of_body, operand, spaced, string_of, argument_at, comma_part, made_string}
 
 -- the strings of a body's places, from left to right
 abbrev pub made_strings : List Argument → List Element → Result (List Carrier) ExpandFault
@@ -21,6 +21,10 @@ plain_parts args (StringOf space n) = []
 plain_parts args (AsWritten space n) = operand (spaced space (argument_at args n).written)
 plain_parts args (Expanded space n) = map as_part (spaced space (argument_at args n).expanded)
 plain_parts args (Comma b n) = comma_part (argument_at args n).given b ∷ []
+plain_parts args (Optional hash n) = []
+plain_parts args (Kept space n) = operand (spaced space (argument_at args n).expanded)
+plain_parts args Empty = Piece None ∷ []
+plain_parts args (Made space text) = as_part (made_string space text) ∷ []
 
 -- the parts of a body's places, with these strings
 abbrev pub parts_from : List Argument → List Element → List Carrier → List Part

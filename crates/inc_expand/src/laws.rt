@@ -1,9 +1,12 @@
 //! What holds of all expansions. The functions do nothing: what they ensure is what holds.
+ghost use Rattle.inc_text.specs.declared.languages.Language.{Language};
+ghost use Rattle.inc_text.specs.declared.languages.Language.TheVariants.{Gnu};
 ghost use Rattle.std.specs.Prelude.{◌≡◌, ◌≢◌, ◌≤◌, ℕ, List, None, Ok, IfOk, IfErr, IsTrue, map};
 ghost use Rattle.std.specs.List.{All, list_all};
 ghost use Rattle.inc_token.specs.TokenLaws.{is_spelled};
 ghost use Rattle.inc_token.specs.TokenLines.{Tok};
 ghost use Rattle.inc_expand.specs.Expansion.{Meter, Surroundings, expansion, predefined, of_source, item_of};
+ghost use Rattle.inc_expand.specs.Contexts.{expansion_read};
 ghost use Rattle.inc_expand.specs.declared.faults.ExpandFault.TheVariants.{NoMemory};
 ghost use Rattle.inc_expand.specs.SpelledItems.{is_spelled_item, HasLiterals, HasSpelledBodies};
 
@@ -28,9 +31,17 @@ pub fn other_tokens_are_left_alone()
 
 /// Where the tokens that are handed in and those of the macros' bodies lie in the classes that they are said to lie in, and
 /// what `__FILE__`, `__BASE_FILE__`, `__DATE__`, `__TIME__` and `__TIMESTAMP__` give are string literals, each item of an expansion lies in
-/// its class.
+/// its class. That is so in each language.
 pub fn items_lie_in_their_classes()
-    ensures { (s : Surroundings) (meter : Meter) (tokens : List Tok) →
-        HasSpelledBodies s.table → HasLiterals s.place → IsTrue (list_all is_spelled tokens) →
-        IfOk (expansion s meter tokens) (λ r. IsTrue (list_all is_spelled_item r.0)) }
+    ensures { (language : Language) (s : Surroundings) (meter : Meter) (tokens : List Tok) →
+        HasSpelledBodies language s.table → HasLiterals s.place → IsTrue (list_all (is_spelled language) tokens) →
+        IfOk (expansion s meter tokens) (λ r. IsTrue (list_all (is_spelled_item language) r.0)) }
+{}
+
+/// In GNU C no name is replaced that gcc does not replace: the expansion is the one that goes by the ends of replacements, which stay in the
+/// list of tokens, where the tokens and the bodies lie in their classes.
+pub fn names_are_hidden_as_by_gcc()
+    ensures { (s : Surroundings) (meter : Meter) (tokens : List Tok) → s.table.language ≡ Gnu →
+        HasSpelledBodies Gnu s.table → HasLiterals s.place → IsTrue (list_all (is_spelled Gnu) tokens) →
+        expansion s meter tokens ≡ expansion_read s meter tokens }
 {}

@@ -1,7 +1,7 @@
 //! Tokens joined by `##`, from left to right (ISO/IEC 9899:2018, 6.10.3.3).
 ghost use Rattle.std.specs.Prelude.{◌≡◌, ◌≢◌, ◌<◌, ◌≤◌, ◌∷◌, [], ◌++◌, ℕ, List, length, map, true, false, None, Some, Ok, Err, IfOk, IfErr, OnOk, IfSome, option_map, option_to_list};
-ghost use Rattle.inc_expand.specs.Sets.{Sets, size, Keeps};
-ghost use Rattle.inc_expand.specs.Expansion.{Carrier, Part, Piece, Paste, as_part, operand, spaced, pasted, paste_from, tokens_of, made_kind};
+ghost use Rattle.inc_expand.specs.Sets.{Sets, size, holds, Keeps};
+ghost use Rattle.inc_expand.specs.Expansion.{Carrier, Part, Piece, Paste, as_part, hidden_by_paste, operand, spaced, pasted, paste_from, tokens_of, made_kind};
 ghost use Rattle.inc_expand.specs.Carriers.{carrier, carriers, AreKnown};
 ghost use Rattle.inc_expand.specs.Lent.{lent_tokens};
 ghost use Rattle.inc_expand.specs.Joins.{tokens_in, before_of, put_before, rest_of, IsKnown, IsKnownBefore, IsOpened};
@@ -10,8 +10,10 @@ use crate::carried::{Bytes, Carried};
 use crate::faults::ExpandFault;
 use crate::hide_sets::{HideSets, SetId};
 use crate::lent::Lent;
+use crate::rules::Rule;
 use crate::strings::LONGEST;
 use bumpalo::Bump;
+use inc_text::Language;
 use inc_token::{Kind, kind_of};
 use std::alloc::{AllocError, Global};
 
@@ -43,7 +45,7 @@ fn lengthen(text: &mut Vec<u8>, bytes: &[u8]) -> Result<Kind, ExpandFault>
         return Err(ExpandFault::TokenTooLong);
     }
     text.extend_from_slice(bytes)?;
-    match kind_of(text) {
+    match kind_of(Language::C17, text) {
         Some(kind) => Ok(kind),
         None => Err(ExpandFault::BadPaste),
     }
@@ -67,11 +69,33 @@ fn push_one<'s, 'a, 'b>(
     }
 }
 
+/// What a token hides that `##` makes of two which hide these.
+#[inline(always)]
+fn set_of_paste<'a>(
+    rule: Rule,
+    sets: &mut HideSets<'a>,
+    a: SetId,
+    b: SetId,
+) -> Result<SetId, AllocError>
+    requires a { a < size sets.old }
+    requires b { b < size sets.old }
+    ensures keeps { Keeps sets.old sets.new }
+    ensures known { IfOk result (λ r. r < size sets.new) }
+    ensures members { IfOk result (λ r. (n : List ℕ) → holds sets.new r n
+        ≡ hidden_by_paste rule (holds sets.old a) (holds sets.old b) n) }
+{
+    match rule {
+        Rule::BySets => sets.meet(a, b),
+        Rule::ByContexts => Ok(HideSets::empty()),
+    }
+}
+
 /// A walk over the parts of a replacement that does each `##` on the way.
 #[derive(Drop)]
 pub(crate) struct Joiner<'s, 'a, 'b> {
     alloc: Global,
     arena: &'b Bump,
+    rule: Rule,
     done: Vec<Segment<'s, 'a, 'b>>,
     before: LeftSide<'a, 'b>,
     /// A `##` is right before the place.
@@ -85,16 +109,18 @@ impl<'s, 'a, 'b> Joiner<'s, 'a, 'b> {
     pub(crate) fn new(
         alloc: Global,
         arena: &'b Bump,
+        rule: Rule,
         room: usize,
     ) -> Result<Joiner<'s, 'a, 'b>, AllocError>
         ensures rest { (s : Sets) (parts : List Part) → IfOk result (λ joiner. rest_of s joiner parts
-            ≡ put_before [] (paste_from false None parts)) }
+            ≡ put_before [] (paste_from rule false None parts)) }
         ensures known { (n : ℕ) → IfOk result (λ joiner. IsKnown n joiner) }
     {
         let done = Vec::with_capacity(alloc, room)?;
         Ok(Joiner {
             alloc,
             arena,
+            rule,
             done,
             before: LeftSide::Nothing,
             joins: false,
@@ -142,6 +168,7 @@ impl<'s, 'a, 'b> Joiner<'s, 'a, 'b> {
             ++ tokens_of (before_of s self.old.text.items self.old.before)) }
         ensures before { OnOk result (self.new.before ≡ LeftSide.Nothing) }
         ensures joins { OnOk result (self.new.joins ≡ self.old.joins) }
+        ensures rule { OnOk result (self.new.rule ≡ self.old.rule) }
         ensures known { (n : ℕ) → IsKnown n self.old → OnOk result (IsKnown n self.new) }
         ensures fault { IfErr result (λ fault. fault ≡ ExpandFault.NoMemory) }
     {
@@ -160,7 +187,7 @@ impl<'s, 'a, 'b> Joiner<'s, 'a, 'b> {
             → IfOk result (λ r. IfSome r (λ p. p.0 < n)) }
         ensures fault { (s : Sets) (b : Carrier)
             → IfErr result (λ fault. fault ≢ ExpandFault.NoMemory
-            → pasted (before_of s self.old.text.items self.old.before) (Some b) ≡ Err fault) }
+            → pasted self.old.rule (before_of s self.old.text.items self.old.before) (Some b) ≡ Err fault) }
     {
         match self.before {
             LeftSide::Nothing => Ok(None),
@@ -181,14 +208,15 @@ impl<'s, 'a, 'b> Joiner<'s, 'a, 'b> {
         requires known { IsKnown (size sets.old) self.old }
         requires token { token.set < size sets.old }
         ensures keeps { Keeps sets.old sets.new }
-        ensures pasted { OnOk result (pasted
+        ensures pasted { OnOk result (pasted self.old.rule
             (before_of sets.old self.old.text.items self.old.before) (Some (carrier sets.old token.entry))
             ≡ Ok (before_of sets.new self.new.text.items self.new.before)) }
         ensures done { OnOk result (self.new.done ≡ self.old.done) }
         ensures joins { OnOk result (self.new.joins ≡ self.old.joins) }
+        ensures rule { OnOk result (self.new.rule ≡ self.old.rule) }
         ensures known { OnOk result (IsKnown (size sets.new) self.new) }
         ensures fault { IfErr result (λ fault. fault ≢ ExpandFault.NoMemory
-            → pasted (before_of sets.old self.old.text.items self.old.before)
+            → pasted self.old.rule (before_of sets.old self.old.text.items self.old.before)
             (Some (carrier sets.old token.entry)) ≡ Err fault) }
     {
         let Some((set, space)) = self.opened()? else {
@@ -196,7 +224,7 @@ impl<'s, 'a, 'b> Joiner<'s, 'a, 'b> {
             return Ok(());
         };
         let kind = lengthen(&mut self.text, token.bytes())?;
-        let set = sets.meet(set, token.set)?;
+        let set = set_of_paste(self.rule, sets, set, token.set)?;
         self.before = LeftSide::Made { set, kind, space };
         Ok(())
     }
@@ -327,6 +355,7 @@ impl<'s, 'a, 'b> Joiner<'s, 'a, 'b> {
         let Joiner {
             alloc: _,
             arena: _,
+            rule: _,
             done,
             before: _,
             joins: _,

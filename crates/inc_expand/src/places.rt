@@ -3,7 +3,7 @@ ghost use Rattle.std.specs.Prelude.{◌≡◌, ◌+ℤ◌, pos, nat_abs};
 ghost use Rattle.inc_expand.specs.Expansion.{presumed_line};
 ghost use Rattle.inc_expand.specs.Places.{place_value};
 
-use inc_token::Language;
+use inc_text::Language;
 
 /// How many numbers of lines there are in GNU C, 0 among them.
 const LINES: u64 = 4_294_967_296;

@@ -19,6 +19,7 @@ use crate::hide_sets::{HideSets, SetId};
 use crate::lent::Lent;
 use crate::puts::{put_run, space_front};
 use crate::replacements::expanded_at;
+use crate::rules::Rule;
 use crate::stacks::Stack;
 use crate::walks::Work;
 use inc_macro::Definition;
@@ -45,6 +46,7 @@ fn pay_for(units: &mut u32, count: usize) -> Result<(), ExpandFault>
 /// Puts the tokens of an argument before a list, the first of them with this white space before it.
 fn put_argument<'a, 'b>(
     list: &mut Stack<'a, 'b>,
+    rule: Rule,
     sets: &mut HideSets<'a>,
     line: u32,
     names: SetId,
@@ -54,14 +56,14 @@ fn put_argument<'a, 'b>(
     requires names { names < size sets.old }
     requires tokens { AreKnown (size sets.old) (lent_tokens tokens) }
     requires list { AreKnown (size sets.old) list.old }
-    ensures laid { OnOk result (IsLaid sets.old sets.new line names
+    ensures laid { OnOk result (IsLaid rule sets.old sets.new line names
         (spaced space (carriers sets.old (lent_tokens tokens.entry))) list.old list.new) }
     ensures fault { IfErr result (λ fault. fault ≡ ExpandFault.NoMemory) }
 {
     if tokens.len() == 0 {
         return Ok(());
     }
-    put_run(list, sets, line, names, tokens)?;
+    put_run(list, rule, sets, line, names, tokens)?;
     space_front(list, space)?;
     Ok(())
 }
@@ -69,6 +71,7 @@ fn put_argument<'a, 'b>(
 /// Puts what stands for a place of a plain body before a list, and pays for it.
 fn put_place<'a, 'b>(
     list: &mut Stack<'a, 'b>,
+    rule: Rule,
     sets: &mut HideSets<'a>,
     units: &mut u32,
     line: u32,
@@ -79,7 +82,7 @@ fn put_place<'a, 'b>(
     requires names { names < size sets.old }
     requires args { AreKnownIn (size sets.old) args.now }
     requires list { AreKnown (size sets.old) list.old }
-    ensures laid { OnOk result (IsLaid sets.old sets.new line names
+    ensures laid { OnOk result (IsLaid rule sets.old sets.new line names
         (tokens_at (argument_values sets.old args.now) (element_value element.entry)) list.old list.new) }
     ensures paid { OnOk result (units.new + length
         (tokens_at (argument_values sets.old args.now) (element_value element.entry)) ≡ units.old) }
@@ -101,7 +104,7 @@ fn put_place<'a, 'b>(
         Element::Expanded(space, n) => {
             let tokens = expanded_at(args, n);
             pay_for(units, tokens.len())?;
-            put_argument(list, sets, line, names, space, tokens)?;
+            put_argument(list, rule, sets, line, names, space, tokens)?;
             Ok(())
         }
         _ => Ok(()),
@@ -112,6 +115,7 @@ fn put_place<'a, 'b>(
 /// one for each token, of which there are no more than units.
 fn put_places<'a, 'b>(
     list: &mut Stack<'a, 'b>,
+    rule: Rule,
     sets: &mut HideSets<'a>,
     units: &mut u32,
     line: u32,
@@ -122,7 +126,7 @@ fn put_places<'a, 'b>(
     requires names { names < size sets.old }
     requires args { AreKnownIn (size sets.old) args.now }
     requires list { AreKnown (size sets.old) list.old }
-    ensures laid { OnOk result (IsLaid sets.old sets.new line names
+    ensures laid { OnOk result (IsLaid rule sets.old sets.new line names
         (plain_tokens (argument_values sets.old args.now) (elements_of definition.now)) list.old list.new) }
     ensures paid { OnOk result (units.new + length
         (plain_tokens (argument_values sets.old args.now) (elements_of definition.now)) ≡ units.old) }
@@ -134,14 +138,15 @@ fn put_places<'a, 'b>(
     while i > 0 {
         i -= 1;
         let element = element_at(definition, i);
-        put_place(list, sets, units, line, names, element, args)?;
+        put_place(list, rule, sets, units, line, names, element, args)?;
     }
     Ok(())
 }
 
-/// Puts what replaces a token by a plain body before a list: on its line, with these names more, and spaced as it is.
+/// Puts what replaces a token by a plain body before a list: on its line, with these names hidden, and spaced as it is.
 fn put_plain<'a, 'b>(
     list: &mut Stack<'a, 'b>,
+    rule: Rule,
     sets: &mut HideSets<'a>,
     units: &mut u32,
     replaced: &Carried<'a, 'b>,
@@ -154,7 +159,7 @@ fn put_plain<'a, 'b>(
     requires list { AreKnown (size sets.old) list.old }
     ensures keeps { OnOk result (Keeps sets.old sets.new) }
     ensures put { OnOk result (carriers sets.new list.new
-        ≡ replacing (carrier sets.old replaced.now) (holds sets.old names)
+        ≡ replacing rule (carrier sets.old replaced.now) (holds sets.old names)
         (plain_tokens (argument_values sets.old args.now) (elements_of definition.now)) ++ carriers sets.old list.old) }
     ensures known { OnOk result (AreKnown (size sets.new) list.new) }
     ensures paid { OnOk result (units.new + length
@@ -163,7 +168,16 @@ fn put_plain<'a, 'b>(
         × (units.old < length (plain_tokens (argument_values sets.old args.now) (elements_of definition.now)))) }
 {
     let before = list.len();
-    put_places(list, sets, units, replaced.line, names, definition, args)?;
+    put_places(
+        list,
+        rule,
+        sets,
+        units,
+        replaced.line,
+        names,
+        definition,
+        args,
+    )?;
     if list.len() > before {
         space_front(list, replaced.space)?;
     }
@@ -172,6 +186,7 @@ fn put_plain<'a, 'b>(
 
 /// Replaces a macro's name or call by a plain body: the names that the replacement hides are these and the macro's own.
 pub(crate) fn replace_plain<'a, 'b>(
+    rule: Rule,
     work: &mut Work<'a>,
     token: &Carried<'a, 'b>,
     hidden: SetId,
@@ -184,14 +199,23 @@ pub(crate) fn replace_plain<'a, 'b>(
     requires args { AreKnownIn (size work.old.sets) args.now }
     requires list { AreKnown (size work.old.sets) list.old }
     ensures replaced { OnOk result
-        (IsPlaced macro_.now args.now token.now hidden work.old work.new list.old list.new) }
+        (IsPlaced rule macro_.now args.now token.now hidden work.old work.new list.old list.new) }
     ensures fault { IfErr result (λ fault. fault ≢ ExpandFault.NoMemory
-        → IsNotPlaced macro_.now args.now token.now hidden work.old list.old fault) }
+        → IsNotPlaced rule macro_.now args.now token.now hidden work.old list.old fault) }
 {
     let mut units = work.meter.left();
     pay_for(&mut units, 1)?;
     let names = work.sets.with(hidden, macro_.name())?;
-    put_plain(list, &mut work.sets, &mut units, token, names, macro_, args)?;
+    put_plain(
+        list,
+        rule,
+        &mut work.sets,
+        &mut units,
+        token,
+        names,
+        macro_,
+        args,
+    )?;
     work.meter.set_left(units);
     Ok(())
 }

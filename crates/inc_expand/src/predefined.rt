@@ -10,7 +10,8 @@ use crate::faults::ExpandFault;
 use crate::places::Place;
 use crate::strings::push_escaped;
 use bumpalo::Bump;
-use inc_token::{Kind, Language};
+use inc_text::Language;
+use inc_token::Kind;
 use itoa::Buffer;
 use std::alloc::{AllocError, Global};
 

@@ -1,9 +1,9 @@
 //! Strings that `#` makes (ISO/IEC 9899:2018, 6.10.3.2).
-ghost use Rattle.std.specs.Prelude.{◌≡◌, ◌≢◌, ◌<◌, ◌≤◌, ◌∷◌, [], false, ◌++◌, length, Ok, Err, IfOk, IfErr, OnOk, if◌then◌else◌, nat_lt, ◌&&◌};
+ghost use Rattle.std.specs.Prelude.{◌≡◌, ◌≢◌, Bool, ◌<◌, ◌≤◌, ◌∷◌, [], false, ◌++◌, length, Ok, Err, IfOk, IfErr, OnOk, if◌then◌else◌, nat_lt, ◌&&◌};
 ghost use Rattle.inc_text.specs.Ascii.{blank};
 ghost use Rattle.inc_token.specs.Spellings.{class_of};
 ghost use Rattle.inc_expand.specs.Sets.{Sets, size};
-ghost use Rattle.inc_expand.specs.Expansion.{escaped, spelled_token, spelled, spaced, in_quotes, fits, is_str, string_of};
+ghost use Rattle.inc_expand.specs.Expansion.{escaped, spelled_token, spelled, spaced, in_quotes, fits, is_str, made_string, string_of};
 ghost use Rattle.inc_expand.specs.Carriers.{carrier, carriers};
 ghost use Rattle.inc_expand.specs.Lent.{lent_tokens};
 
@@ -12,6 +12,7 @@ use crate::faults::ExpandFault;
 use crate::hide_sets::HideSets;
 use crate::lent::Lent;
 use bumpalo::Bump;
+use inc_text::Language;
 use inc_token::{Kind, kind_of};
 use std::alloc::{AllocError, Global};
 
@@ -105,11 +106,44 @@ fn string_text(alloc: Global, written: Lent<'_, '_, '_>) -> Result<Vec<u8>, Expa
 
 /// Whether bytes are a string literal.
 fn is_string(bytes: &[u8]) -> bool
-    ensures { result ≡ is_str (class_of bytes.now) }
+    ensures { result ≡ is_str (class_of Language.C17 bytes.now) }
 {
-    match kind_of(bytes) {
+    match kind_of(Language::C17, bytes) {
         Some(Kind::Str) => true,
         _ => false,
+    }
+}
+
+/// The bytes of the string that `#` makes of some tokens, which are those of a string.
+pub(crate) fn string_bytes<'b>(
+    alloc: Global,
+    arena: &'b Bump,
+    written: Lent<'_, '_, '_>,
+) -> Result<&'b [u8], ExpandFault>
+    ensures string { (space : Bool) (s : Sets) → IfOk result (λ bytes.
+        string_of space (carriers s (lent_tokens written.entry)) ≡ Ok (made_string space bytes.now)) }
+    ensures fault { (space : Bool) (s : Sets) → IfErr result (λ fault.
+        fault ≢ ExpandFault.NoMemory → string_of space (carriers s (lent_tokens written.entry)) ≡ Err fault) }
+{
+    let text = string_text(alloc, written)?;
+    if !is_string(&text) {
+        return Err(ExpandFault::BadString);
+    }
+    let bytes = arena.try_alloc_slice_copy(&text)?;
+    Ok(bytes)
+}
+
+/// A string that was made; `space`: white space is before the `#`.
+pub(crate) fn made_string<'a, 'b>(space: bool, bytes: &'b [u8]) -> Carried<'a, 'b>
+    ensures token { (s : Sets) → carrier s result ≡ made_string space bytes.now }
+    ensures known { (s : Sets) → result.set < size s }
+{
+    Carried {
+        text: Bytes::Made(bytes),
+        line: 0,
+        set: HideSets::empty(),
+        kind: Kind::Str,
+        space,
     }
 }
 
@@ -126,16 +160,6 @@ pub(crate) fn string_of<'a, 'b>(
     ensures fault { (s : Sets) → IfErr result (λ fault.
         fault ≢ ExpandFault.NoMemory → string_of space (carriers s (lent_tokens written.entry)) ≡ Err fault) }
 {
-    let text = string_text(alloc, written)?;
-    if !is_string(&text) {
-        return Err(ExpandFault::BadString);
-    }
-    let bytes = arena.try_alloc_slice_copy(&text)?;
-    Ok(Carried {
-        text: Bytes::Made(bytes),
-        line: 0,
-        set: HideSets::empty(),
-        kind: Kind::Str,
-        space,
-    })
+    let bytes = string_bytes(alloc, arena, written)?;
+    Ok(made_string(space, bytes))
 }

@@ -1,8 +1,9 @@
 //! The expansion of lists of tokens (ISO/IEC 9899:2018, 6.10.3.4).
 ghost use Rattle.std.specs.Prelude.{◌≡◌, ◌≢◌, ℕ, suc, ◌+◌, ◌-◌, ◌<◌, ◌≤◌, ◌&&◌, List, [], ◌∷◌, true, false, nat_lt, drop, get_or, length, Ok, Err, None, Some, IfOk, OnOk, IfErr};
+ghost use Rattle.inc_expand.specs.declared.rules.Rule.{Rule as RuleSeen};
 ghost use Rattle.inc_expand.specs.Sets.{Sets, size, holds, Keeps};
 ghost use Rattle.inc_expand.specs.Elements.{elements_of};
-ghost use Rattle.inc_expand.specs.Expansion.{Expander, IsCall, IsObject, IsPredefined, all_levels, call_behind, case_of, is_expanded_in, levels, spent};
+ghost use Rattle.inc_expand.specs.Expansion.{Expander, IsCall, IsObject, IsPredefined, all_levels, call_behind, case_of, is_expanded_in, levels, rule_in, spent};
 ghost use Rattle.inc_expand.specs.Carriers.{bytes_in, carrier, carriers, AreKnown};
 ghost use Rattle.inc_expand.specs.Arguments.{ArgumentValue, AreKnownIn};
 ghost use Rattle.inc_expand.specs.Cases.{surroundings_value};
@@ -18,14 +19,16 @@ use crate::budgets::{Budget, units_after};
 use crate::calls::{bound, take_call};
 use crate::carried::Carried;
 use crate::cases::{Case, Surroundings, pass};
+use crate::contexts::taken;
 use crate::faults::ExpandFault;
 use crate::frames::{Call, Frame, Frames, Level};
 use crate::hide_sets::{HideSets, SetId};
+use crate::optionals::substituted;
 use crate::pastes::Segment;
 use crate::plain_bodies::{is_plain, replace_plain};
 use crate::predefined::{Predefined, paid_text};
 use crate::puts::put;
-use crate::replacements::substituted;
+use crate::rules::{Rule, rule_of};
 use crate::stacks::{LEAST_ROOM, Stack};
 use bumpalo::Bump;
 use inc_macro::{Definition, Parameters};
@@ -74,11 +77,11 @@ fn replace_predefined<'a, 'b>(
     requires name { made.now.name.now ≡ bytes_in token.now.text }
     requires token { token.now.set < size work.old.sets }
     requires list { AreKnown (size work.old.sets) list.old }
-    ensures replaced { (deeper : Expander) → OnOk result
-        (IsReplaced deeper (IsPredefined made.now.kind (content_value made.now.content))
+    ensures replaced { (rule : RuleSeen) (deeper : Expander) → OnOk result
+        (IsReplaced rule deeper (IsPredefined made.now.kind (content_value made.now.content))
         token.now work.old work.new list.old list.new) }
-    ensures fault { (deeper : Expander) → IfErr result (λ fault. fault ≢ ExpandFault.NoMemory
-        → IsRefused deeper (IsPredefined made.now.kind (content_value made.now.content))
+    ensures fault { (rule : RuleSeen) (deeper : Expander) → IfErr result (λ fault. fault ≢ ExpandFault.NoMemory
+        → IsRefused rule deeper (IsPredefined made.now.kind (content_value made.now.content))
         token.now work.old list.old fault) }
 {
     if work.meter.left() < 2 {
@@ -131,6 +134,14 @@ fn hidden_by_both<'a>(
 }
 
 impl<'a: 'b, 'b> Surroundings<'a, 'b> {
+    /// Why a name is not replaced again.
+    #[inline(always)]
+    fn rule(&self) -> Rule
+        ensures { result ≡ rule_in (surroundings_value self.now) }
+    {
+        rule_of(self.macros.language())
+    }
+
     /// Replaces a macro's name or call by a body whose places may be joined.
     fn replace_joined(
         &self,
@@ -145,14 +156,15 @@ impl<'a: 'b, 'b> Surroundings<'a, 'b> {
         requires args { AreKnownIn (size work.old.sets) args.now }
         requires list { AreKnown (size work.old.sets) list.old }
         ensures replaced { OnOk result
-            (IsPlaced macro_.now args.now token.now hidden work.old work.new list.old list.new) }
+            (IsPlaced (rule_in (surroundings_value self.now)) macro_.now args.now token.now hidden work.old work.new list.old list.new) }
         ensures fault { IfErr result (λ fault. fault ≢ ExpandFault.NoMemory
-            → IsNotPlaced macro_.now args.now token.now hidden work.old list.old fault) }
+            → IsNotPlaced (rule_in (surroundings_value self.now)) macro_.now args.now token.now hidden work.old list.old fault) }
     {
-        let segments = substituted(self.alloc, self.arena, &mut work.sets, macro_, args)?;
+        let rule = self.rule();
+        let segments = substituted(self.alloc, self.arena, rule, &mut work.sets, macro_, args)?;
         pay(&mut work.meter, &segments)?;
         let names = work.sets.with(hidden, macro_.name())?;
-        put(list, &mut work.sets, token, names, &segments)?;
+        put(list, rule, &mut work.sets, token, names, &segments)?;
         Ok(())
     }
 
@@ -170,12 +182,12 @@ impl<'a: 'b, 'b> Surroundings<'a, 'b> {
         requires args { AreKnownIn (size work.old.sets) args.now }
         requires list { AreKnown (size work.old.sets) list.old }
         ensures replaced { OnOk result
-            (IsPlaced macro_.now args.now token.now hidden work.old work.new list.old list.new) }
+            (IsPlaced (rule_in (surroundings_value self.now)) macro_.now args.now token.now hidden work.old work.new list.old list.new) }
         ensures fault { IfErr result (λ fault. fault ≢ ExpandFault.NoMemory
-            → IsNotPlaced macro_.now args.now token.now hidden work.old list.old fault) }
+            → IsNotPlaced (rule_in (surroundings_value self.now)) macro_.now args.now token.now hidden work.old list.old fault) }
     {
         if is_plain(macro_) {
-            replace_plain(work, token, hidden, macro_, args, list)?;
+            replace_plain(self.rule(), work, token, hidden, macro_, args, list)?;
             return Ok(());
         }
         self.replace_joined(work, token, hidden, macro_, args, list)?;
@@ -193,10 +205,10 @@ impl<'a: 'b, 'b> Surroundings<'a, 'b> {
         requires token { token.now.set < size work.old.sets }
         requires list { AreKnown (size work.old.sets) list.old }
         ensures replaced { (deeper : Expander) → OnOk result
-            (IsReplaced deeper (IsObject macro_.now) token.now
+            (IsReplaced (rule_in (surroundings_value self.now)) deeper (IsObject macro_.now) token.now
             work.old work.new list.old list.new) }
         ensures fault { (deeper : Expander) → IfErr result (λ fault. fault ≢ ExpandFault.NoMemory
-            → IsRefused deeper (IsObject macro_.now) token.now work.old list.old fault) }
+            → IsRefused (rule_in (surroundings_value self.now)) deeper (IsObject macro_.now) token.now work.old list.old fault) }
     {
         let none = Arguments::none(self.alloc);
         self.replace_by(work, token, token.set, macro_, &none, list)?;
@@ -250,9 +262,9 @@ impl<'a: 'b, 'b> Surroundings<'a, 'b> {
     ) -> Result<(), ExpandFault>
         requires call { IsKnownCall (size work.old.sets) call.now }
         requires list { AreKnown (size work.old.sets) list.old }
-        ensures replaced { OnOk result (IsCallReplaced call.now work.old work.new list.old list.new) }
+        ensures replaced { OnOk result (IsCallReplaced (rule_in (surroundings_value self.now)) call.now work.old work.new list.old list.new) }
         ensures fault { IfErr result (λ fault. fault ≢ ExpandFault.NoMemory
-            → IsCallRefused call.now work.old list.old fault) }
+            → IsCallRefused (rule_in (surroundings_value self.now)) call.now work.old list.old fault) }
     {
         let both = hidden_by_both(&mut work.sets, &call.name, &call.close)?;
         self.replace_by(work, &call.name, both, call.macro_, &call.args, list)?;
@@ -343,7 +355,9 @@ impl<'a: 'b, 'b> Surroundings<'a, 'b> {
             → answer (surroundings_value self.now) work.old.sets work.old.meter frames.old
             (with_front token.now level.old) ≡ Err fault) }
     {
-        let (inside, close) = call_of(self.alloc, &mut level.list)?;
+        let (written, close) = call_of(self.alloc, &mut level.list)?;
+        let rule = self.rule();
+        let inside = taken(self.alloc, rule, &work.sets, close.set, written)?;
         let args = bound(self.alloc, params, inside)?;
         let call = Call {
             name: *token,

@@ -8,7 +8,7 @@ use Rattle.std.proofs.lemmas.List.{append-nil, length-append}
 use Rattle.std.proofs.lemmas.List.FromFn.{length-map-range_with_len}
 use Rattle.inc_graph.specs.Members.{is_member}
 use Rattle.inc_graph.specs.Settings.{Setting}
-use Rattle.inc_directive.specs.FileDirectives.{Directive, bad_line}
+use Rattle.inc_directive.specs.FileDirectives.{Directive}
 use Rattle.inc_directive.specs.declared.files.FileFault.{FileFault}
 use Rattle.inc_graph.specs.MissingLists.{Missing}
 use Rattle.inc_lookup.specs.Projects.{Layout, Listing, bytes_at, layout_of}
@@ -170,7 +170,7 @@ flat_map_options h [] = refl
 flat_map_options h (x ∷ xs) = cons_option-list (h x) (flat_map (λ y. option_to_list (h y)) xs) ∙ ap (cons_option (h x)) (flat_map_options h xs)
 
 bad_of_file : (names : List (List ℕ)) (layout : Layout) (starts : List (Option ℕ)) (file : ℕ) (places : List ℕ) (r : Result (List Directive) FileFault)
-    → bad_state file (Some (entries_of names layout starts file places r)) ≡ option_to_list (elim r [ Ok directives ↦ None | Err fault ↦ Some (file, bad_line fault) ])
+    → bad_state file (Some (entries_of names layout starts file places r)) ≡ option_to_list (elim r [ Ok directives ↦ None | Err fault ↦ Some (file, fault) ])
 bad_of_file names layout starts file places (Ok directives) = refl
 bad_of_file names layout starts file places (Err fault) = refl
 
@@ -179,7 +179,7 @@ pub bads_are : (setting : Setting) (listing : Listing) (starts : ℕ → List (O
 bads_are setting listing starts headers ss e =
     ap (bad_states 0) e
     ∙ collected_files bad_state (λ f. option_to_list (bad_file setting listing f)) setting listing starts headers
-    (λ f. bad_of_file setting.undefined (layout_of listing) (starts f) f (text_definitions setting (phase_text (bytes_at listing f))) (read_directives setting listing f)) (λ f. refl)
+    (λ f. bad_of_file setting.undefined (layout_of listing) (starts f) f (text_definitions setting (phase_text setting.language (bytes_at listing f))) (read_directives setting listing f)) (λ f. refl)
     ∙ flat_map_options (bad_file setting listing) (inner_files listing starts headers)
 
 pub length_states : (setting : Setting) (listing : Listing) (sources headers : List ℕ) (ss : List State) → AreStates setting listing sources headers ss → length ss ≡ length listing.files
@@ -235,11 +235,11 @@ edges_few setting listing starts headers ss e =
 
 ---- the answer
 
-first_is_bad : (bads : List (ℕ × ℕ)) (count : ℕ) (g : Graph) (refusal : GraphRefusal) → first_refusal bads ≡ Some refusal → graph_or_bad bads count g ≡ Err refusal
+first_is_bad : (bads : List (ℕ × FileFault)) (count : ℕ) (g : Graph) (refusal : GraphRefusal) → first_refusal bads ≡ Some refusal → graph_or_bad bads count g ≡ Err refusal
 first_is_bad [] count g refusal e = cc
 first_is_bad (b ∷ bads) count g refusal e = cc
 
-none_is_bad : (bads : List (ℕ × ℕ)) (count : ℕ) (g : Graph) → first_refusal bads ≡ None → graph_or_bad bads count g ≡ sized_graph count g
+none_is_bad : (bads : List (ℕ × FileFault)) (count : ℕ) (g : Graph) → first_refusal bads ≡ None → graph_or_bad bads count g ≡ sized_graph count g
 none_is_bad [] count g e = refl
 none_is_bad (b ∷ bads) count g e = cc
 

@@ -101,7 +101,7 @@ contained_some xs x c = (c.0, slice_get-get_or xs c.0 x c.1 ∙ ap Some c.2)
 ---- the search
 
 abbrev pub State : Type 0
-State = Option (Result (List Entry) ℕ)
+State = Option (Result (List Entry) FileFault)
 
 -- what is kept of the #include_next directives of a file
 abbrev pub file_nexts : Setting → Listing → ℕ → List Next
@@ -295,12 +295,12 @@ module _ (setting : Setting) (listing : Listing) (sources headers : List ℕ) (p
     ];
   }
 
-  not_found : (l : List (Option ℕ)) (x : Result (List Entry) ℕ) (b : Bool) → b ≡ false → cond (is_found l && not b) (Some x) None ≡ None → l ≡ []
+  not_found : (l : List (Option ℕ)) (x : Result (List Entry) FileFault) (b : Bool) → b ≡ false → cond (is_found l && not b) (Some x) None ≡ None → l ≡ []
   not_found [] x b other none = refl
   not_found (n ∷ ns) x true other none = absurd (false≢true (sym other))
   not_found (n ∷ ns) x false other none = absurd (none-some x (sym none))
 
-  some_found : (l : List (Option ℕ)) (x : Result (List Entry) ℕ) (b : Bool) → is_some (cond (is_found l && not b) (Some x) None) ≡ true → (n : Option ℕ) × (ns : List (Option ℕ)) × (l ≡ n ∷ ns)
+  some_found : (l : List (Option ℕ)) (x : Result (List Entry) FileFault) (b : Bool) → is_some (cond (is_found l && not b) (Some x) None) ≡ true → (n : Option ℕ) × (ns : List (Option ℕ)) × (l ≡ n ∷ ns)
   some_found [] x b is = absurd (false≢true is)
   some_found (n ∷ ns) x b is = (n, ns, refl)
 
@@ -352,7 +352,7 @@ module _ (setting : Setting) (listing : Listing) (sources headers : List ℕ) (p
       ])
       (ap (λ (o : State). with_nexts at.next o (get_or nexts at.file [])) was
       ∙ ap (λ (l : List Next). with_nexts at.next (Some (file_entries setting listing (front.0 ∷ front.1) at.file)) l) own
-      ∙ entries_more setting.undefined (layout_of listing) at.file at.next front.0 front.1 (text_definitions setting (phase_text (bytes_at listing at.file))) (read_directives setting listing at.file)
+      ∙ entries_more setting.undefined (layout_of listing) at.file at.next front.0 front.1 (text_definitions setting (phase_text setting.language (bytes_at listing at.file))) (read_directives setting listing at.file)
       ∙ ap (λ (l : List (Option ℕ)). Some (file_entries setting listing (at.next ∷ l) at.file)) (sym front.2))
       low refl own (λ g differ. refl)
     where

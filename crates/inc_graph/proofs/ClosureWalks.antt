@@ -7,6 +7,7 @@ use Rattle.std.proofs.lemmas.Bool.{and_parts, and_from, cases_lt, eq-eqb, eqb-tr
 use Rattle.std.proofs.lemmas.List.Elements.{All-contains, filter_passes, Contains-append_cases, Contains-append_left, Contains-append_right, Contains-push_cases}
 use Rattle.std.proofs.lemmas.List.FromFn.{get_or-range_with_len, length-range_with_len}
 use Rattle.std.proofs.lemmas.Option.{slice_get_within, slice_get-get_or, get_or_from_slice_get}
+use Rattle.inc_directive.specs.declared.files.FileFault.{FileFault}
 use Rattle.inc_graph.specs.Members.{is_member}
 use Rattle.inc_graph.specs.Settings.{Setting}
 use Rattle.inc_directive.specs.FileDirectives.{Directive}
@@ -86,7 +87,7 @@ in_range n f low = (f, omega (arith, length-range_with_len 0 n), get_or-range_wi
 ---- the files of a graph
 
 -- a file that is none of the list has no edges
-none_in_no_text : (setting : Setting) (f : ℕ) → text_directives setting f (phase_text []) ≡ Ok []
+none_in_no_text : (setting : Setting) (f : ℕ) → text_directives setting f (phase_text setting.language []) ≡ Ok []
 none_in_no_text setting f = refl
 
 pub past_none : (files : List File) (f : ℕ) → length files ≤ f → slice_get files f ≡ None
@@ -98,7 +99,7 @@ past_none (x ∷ xs) (suc f) low = past_none xs f (omega arith)
 no_text_no_edges : (setting : Setting) (listing : Listing) (starts : List (Option ℕ)) (f : ℕ) → bytes_at listing f ≡ [] → edges_from setting listing starts f ≡ []
 no_text_no_edges setting listing starts f bytes =
     ap (λ r. filter_map (entry_edge f) (filter_map (entry_of setting.undefined (layout_of listing) starts f) (elim r [ Ok directives ↦ directives | Err fault ↦ [] ])))
-    (ap (λ (bs : List ℕ). text_directives setting f (phase_text bs)) bytes ∙ none_in_no_text setting f)
+    (ap (λ (bs : List ℕ). text_directives setting f (phase_text setting.language bs)) bytes ∙ none_in_no_text setting f)
 
 no_edges : (setting : Setting) (listing : Listing) (starts : List (Option ℕ)) (f : ℕ) → length listing.files ≤ f → edges_from setting listing starts f ≡ []
 no_edges setting listing starts f low =
@@ -119,7 +120,7 @@ directive_within setting listing f d c =
       | inr high ↦
           let bytes : bytes_at listing f ≡ [] = ap (λ (o : Option File). option_map_or (λ (x : File). x.bytes) o []) (past_none listing.files f high) in
           let none : graph_directives setting listing f ≡ [] =
-          ap (λ r. elim r [ Ok directives ↦ directives | Err fault ↦ [] ]) (ap (λ (bs : List ℕ). text_directives setting f (phase_text bs)) bytes ∙ none_in_no_text setting f) in
+          ap (λ r. elim r [ Ok directives ↦ directives | Err fault ↦ [] ]) (ap (λ (bs : List ℕ). text_directives setting f (phase_text setting.language bs)) bytes ∙ none_in_no_text setting f) in
           absurd (contains_none d (subst (λ ds. Contains ds d) none c))
     ]
 
@@ -161,7 +162,7 @@ sized_is : (b : Bool) (h g : Graph) → cond {A = Result Graph GraphRefusal} b (
 sized_is true h g e = cc
 sized_is false h g e = cc
 
-pub answer_is : (bads : List (ℕ × ℕ)) (count : ℕ) (h g : Graph) → graph_or_bad bads count h ≡ Ok g → h ≡ g
+pub answer_is : (bads : List (ℕ × FileFault)) (count : ℕ) (h g : Graph) → graph_or_bad bads count h ≡ Ok g → h ≡ g
 answer_is [] count h g e = sized_is (nat_lt most_directives count) h g e
 answer_is (b ∷ bads) count h g e = cc
 

@@ -68,7 +68,7 @@ entries_define name names layout starts file places (Err fault) = refl
 
 file_defines : (setting : Setting) (listing : Listing) (starts : List (Option ℕ)) (name file : ℕ) → state_defines name (Some (file_entries setting listing starts file)) ≡ list_any (λ n. n == name) (file_definitions setting listing file)
 file_defines setting listing starts name file =
-    entries_define name setting.undefined (layout_of listing) starts file (text_definitions setting (phase_text (bytes_at listing file))) (read_directives setting listing file)
+    entries_define name setting.undefined (layout_of listing) starts file (text_definitions setting (phase_text setting.language (bytes_at listing file))) (read_directives setting listing file)
 
 ---- what the files of the closure define
 
@@ -122,7 +122,7 @@ files_low : (setting : Setting) (listing : Listing) (files : List ℕ) (name : �
 files_low setting listing [] name t = absurd (false≢true t)
 files_low setting listing (f ∷ fs) name t =
     elim (or_cases (list_any (λ n. n == name) (file_definitions setting listing f)) (is_defined_in setting listing fs name) t) [
-      | inl here ↦ file_low setting (file_lines setting.language (lines_or_none (token_lines setting.language (phase_text (bytes_at listing f))))) (read_directives setting listing f) name here
+      | inl here ↦ file_low setting (file_lines setting.language (lines_or_none (token_lines setting.language (phase_text setting.language (bytes_at listing f))))) (read_directives setting listing f) name here
       | inr later ↦ files_low setting listing fs name later
     ]
 

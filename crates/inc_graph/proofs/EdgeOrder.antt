@@ -103,7 +103,7 @@ without-ascend removed line (Err fault) h = tt
 pub directives_ascend : (setting : Setting) (listing : Listing) (file : ℕ) → AscendFrom 1 (graph_directives setting listing file)
 directives_ascend setting listing file =
     ascend_or (read_directives setting listing file)
-    (without-ascend (is_listed setting.removed file) 1 (file_directives setting.language (phase_text (bytes_at listing file)))
+    (without-ascend (is_listed setting.removed file) 1 (file_directives setting.language (phase_text setting.language (bytes_at listing file)))
     (file_directives-ascend setting.language (bytes_at listing file)))
 
 leave_file : (setting : Setting) (listing : Listing) (starts : List (Option ℕ)) (file : ℕ) → Leave file 1 (edges_from setting listing starts file)

@@ -28,7 +28,7 @@ use Rattle.inc_graph.specs.Entries.{entries_of, file_entries}
 use Rattle.inc_graph.specs.GraphLists.{State}
 
 -- those of a file that take so; a bad file has none
-abbrev pub picked : {X : Type 0} → (ℕ → Entry → Option X) → ℕ → Result (List Entry) ℕ → List X
+abbrev pub picked : {X : Type 0} → (ℕ → Entry → Option X) → ℕ → Result (List Entry) FileFault → List X
 picked pick file (Ok es) = filter_map (pick file) es
 picked pick file (Err line) = []
 
@@ -54,7 +54,7 @@ picked_directives pick file none names layout starts places (Err fault) = refl
 
 -- what a file's text defines
 abbrev definitions_of : Setting → Listing → ℕ → List ℕ
-definitions_of setting listing file = text_definitions setting (phase_text (bytes_at listing file))
+definitions_of setting listing file = text_definitions setting (phase_text setting.language (bytes_at listing file))
 
 pub picked_edges : (setting : Setting) (listing : Listing) (starts : List (Option ℕ)) (file : ℕ) → picked entry_edge file (file_entries setting listing starts file) ≡ edges_from setting listing starts file
 picked_edges setting listing starts file = picked_directives entry_edge file (λ n. refl) setting.undefined (layout_of listing) starts (definitions_of setting listing file) (read_directives setting listing file)
@@ -209,7 +209,7 @@ entries_lead_within setting listing starts file es e =
 
 ---- each is in its file
 
-picked_in : {X : Type 0} (of : X → ℕ) (pick : ℕ → Entry → Option X) → ((file : ℕ) (e : Entry) → IfSome (pick file e) (λ x. of x ≡ file)) → (file : ℕ) (r : Result (List Entry) ℕ) → All (λ x. of x ≡ file) (picked pick file r)
+picked_in : {X : Type 0} (of : X → ℕ) (pick : ℕ → Entry → Option X) → ((file : ℕ) (e : Entry) → IfSome (pick file e) (λ x. of x ≡ file)) → (file : ℕ) (r : Result (List Entry) FileFault) → All (λ x. of x ≡ file) (picked pick file r)
 picked_in of pick h file (Ok es) = All-filter_map (λ x. of x ≡ file) (pick file) (h file) es
 picked_in of pick h file (Err line) = All-nil (λ x. of x ≡ file)
 

@@ -3,6 +3,7 @@ use Rattle.std.proofs.Common.{◌≡◌, ℕ, ◌+◌, ◌<◌, ◌≤◌, Bool,
 use Rattle.std.specs.Prelude.{filter, nat_lt}
 use Rattle.std.proofs.lemmas.Bool.{lt-ltb, le-ltb}
 use Rattle.std.proofs.lemmas.List.{drop_more, map_push, length-map}
+use Rattle.inc_directive.specs.declared.files.FileFault.{FileFault}
 use Rattle.inc_graph.specs.declared.graphs.Edge as declared
 use Rattle.inc_graph.specs.declared.building.GraphRefusal.TheVariants.{BadFile}
 use Rattle.inc_graph.specs.FileEntries.{Entry}
@@ -78,18 +79,18 @@ total_past states i s low e h = omega (arith, total_step states i s low e, no_si
 
 ---- bad files
 
-no_bad : (i : ℕ) (s : FileState) → ((line : ℕ) → s ≡ Bad line → ⊥) → bad_state i (seen_state s) ≡ []
+no_bad : (i : ℕ) (s : FileState) → ((fault : FileFault) → s ≡ Bad fault → ⊥) → bad_state i (seen_state s) ≡ []
 no_bad i Unread h = refl
 no_bad i (Read es) h = refl
-no_bad i (Bad line) h = absurd (h line refl)
+no_bad i (Bad fault) h = absurd (h fault refl)
 
-pub bad_past : (states : List State) (i : ℕ) (s : FileState) → i < length states → seen_state s ≡ get_or states i None → ((line : ℕ) → s ≡ Bad line → ⊥)
+pub bad_past : (states : List State) (i : ℕ) (s : FileState) → i < length states → seen_state s ≡ get_or states i None → ((fault : FileFault) → s ≡ Bad fault → ⊥)
     → bad_states i (drop i states) ≡ bad_states (i + 1) (drop (i + 1) states)
 bad_past states i s low e h = bad_step states i s low e ∙ ap (λ b. b ++ bad_states (i + 1) (drop (i + 1) states)) (no_bad i s h)
 
-pub bad_found : (states : List State) (i : ℕ) (s : FileState) (line : ℕ) → i < length states → seen_state s ≡ get_or states i None → s ≡ Bad line
-    → first_refusal (bad_states i (drop i states)) ≡ Some (BadFile i line)
-bad_found states i s line low e b =
+pub bad_found : (states : List State) (i : ℕ) (s : FileState) (fault : FileFault) → i < length states → seen_state s ≡ get_or states i None → s ≡ Bad fault
+    → first_refusal (bad_states i (drop i states)) ≡ Some (BadFile i fault)
+bad_found states i s fault low e b =
     ap first_refusal (bad_step states i s low e ∙ ap (λ t. bad_state i (seen_state t) ++ bad_states (i + 1) (drop (i + 1) states)) b)
 
 -- whether a graph may have so many directives

@@ -80,16 +80,16 @@ nexts_alone : (layout : Layout) (file : ℕ) (stays : Directive → Bool) (ds : 
 nexts_alone layout file stays [] i = refl
 nexts_alone layout file stays (d ∷ ds) i = one_next layout file stays d ds (filter is_inclusion ds) i (is_inclusion d) refl (λ j. nexts_alone layout file stays ds j)
 
-module _ (setting : Setting) (layout : Layout) (at : Found) (bytes : List ℕ) (text : List Cell) (ds : List Directive) (spliced : text ≡ phase_text bytes)
+module _ (setting : Setting) (layout : Layout) (at : Found) (bytes : List ℕ) (text : List Cell) (ds : List Directive) (spliced : text ≡ phase_text setting.language bytes)
     (found : file_directives setting.language text ≡ Ok ds) where
-  read : text_directives setting at.file (phase_text bytes) ≡ Ok (filter (stays (is_listed setting.removed at.file)) ds)
+  read : text_directives setting at.file (phase_text setting.language bytes) ≡ Ok (filter (stays (is_listed setting.removed at.file)) ds)
   read = ap (λ r. without (is_listed setting.removed at.file) r) (ap (file_directives setting.language) (sym spliced) ∙ found)
 
   -- what is kept of a file, by its directives that include
   pub entries_read : (es : List Entry) (places : List ℕ) → es ≡ filter_map (entry_of setting.undefined layout (at.next ∷ []) at.file) (filter (stays (is_listed setting.removed at.file)) (filter is_inclusion ds))
-      → places ≡ text_definitions setting (phase_text bytes) → bytes_entries setting layout (at.next ∷ []) at.file bytes ≡ Ok (es ++ map entry.Defines places)
+      → places ≡ text_definitions setting (phase_text setting.language bytes) → bytes_entries setting layout (at.next ∷ []) at.file bytes ≡ Ok (es ++ map entry.Defines places)
   entries_read es places kept defined =
-      ap (entries_of setting.undefined layout (at.next ∷ []) at.file (text_definitions setting (phase_text bytes))) read
+      ap (entries_of setting.undefined layout (at.next ∷ []) at.file (text_definitions setting (phase_text setting.language bytes))) read
       ∙ ap (λ (ks : List ℕ). Ok (filter_map (entry_of setting.undefined layout (at.next ∷ []) at.file) (filter (stays (is_listed setting.removed at.file)) ds) ++ map entry.Defines ks)) (sym defined)
       ∙ ap (λ (l : List Entry). Ok (l ++ map entry.Defines places)) (sym (kept ∙ alone (entry_of setting.undefined layout (at.next ∷ []) at.file) (λ d e. no_entry setting.undefined (leads layout (at.next ∷ []) at.file d) d.kind d.line e) (stays (is_listed setting.removed at.file)) ds))
 
@@ -105,11 +105,11 @@ module _ (setting : Setting) (layout : Layout) (at : Found) (bytes : List ℕ) (
   nexts_read ns kept = kept ∙ nexts_alone layout at.file (stays (is_listed setting.removed at.file)) ds 0 ∙ sym (ap (nexts_of layout at.file) read)
 
 -- a bad file finds nothing
-bad_finds : (names : List (List ℕ)) (layout : Layout) (starts : List (Option ℕ)) (at : Found) (places : List ℕ) (r : Result (List Directive) FileFault) (line : ℕ) → Some (Err line) ≡ Some (entries_of names layout starts at.file places r) → directives_found layout at r ≡ []
-bad_finds names layout starts at places (Ok ds) line is = cc
-bad_finds names layout starts at places (Err fault) line is = refl
+bad_finds : (names : List (List ℕ)) (layout : Layout) (starts : List (Option ℕ)) (at : Found) (places : List ℕ) (r : Result (List Directive) FileFault) (bad : FileFault) → Some (Err bad) ≡ Some (entries_of names layout starts at.file places r) → directives_found layout at r ≡ []
+bad_finds names layout starts at places (Ok ds) bad is = cc
+bad_finds names layout starts at places (Err fault) bad is = refl
 
-pub bad_read : (setting : Setting) (layout : Layout) (starts : List (Option ℕ)) (at : Found) (bytes : List ℕ) (line : ℕ) (old : List Found)
-    → Some (Err line) ≡ Some (bytes_entries setting layout starts at.file bytes) → Reaches old (bytes_found setting layout at bytes) old
-bad_read setting layout starts at bytes line old is =
-    subst (λ (l : List Found). Reaches old l old) (sym (bad_finds setting.undefined layout starts at (text_definitions setting (phase_text bytes)) (text_directives setting at.file (phase_text bytes)) line is)) (reaches_none old)
+pub bad_read : (setting : Setting) (layout : Layout) (starts : List (Option ℕ)) (at : Found) (bytes : List ℕ) (bad : FileFault) (old : List Found)
+    → Some (Err bad) ≡ Some (bytes_entries setting layout starts at.file bytes) → Reaches old (bytes_found setting layout at bytes) old
+bad_read setting layout starts at bytes bad old is =
+    subst (λ (l : List Found). Reaches old l old) (sym (bad_finds setting.undefined layout starts at (text_definitions setting (phase_text setting.language bytes)) (text_directives setting at.file (phase_text setting.language bytes)) bad is)) (reaches_none old)

@@ -6,6 +6,7 @@ use Rattle.std.specs.List.Sorted.{IsNonDecreasing}
 use Rattle.std.proofs.lemmas.Bool.{and_parts, not-true, ltb-false}
 use Rattle.std.proofs.lemmas.List.Elements.{All-nil, All-cons, All-head, All-tail, All-append, All-filter, filter_passes}
 use Rattle.std.proofs.lemmas.List.FromFn.{length-range_with_len, get_or-range_with_len}
+use Rattle.inc_directive.specs.declared.files.FileFault.{FileFault}
 use Rattle.inc_graph.specs.Members.{is_member}
 use Rattle.inc_graph.specs.Settings.{Setting}
 use Rattle.inc_graph.specs.MissingLists.{Missing}
@@ -41,7 +42,7 @@ edges_lead : (P : ℕ → Type 0) (file : ℕ) (es : List Entry) → All (Leads 
 edges_lead P file [] h = All-nil (λ (x : Edge). P x.to)
 edges_lead P file (e ∷ es) h = edge_leads P file e (filter_map (entry_edge file) es) (All-head (Leads P) e es h) (edges_lead P file es (All-tail (Leads P) e es h))
 
-picked_lead : (P : ℕ → Type 0) (file : ℕ) (x : Result (List Entry) ℕ) → ((es : List Entry) → x ≡ Ok es → All (Leads P) es) → All (λ (e : Edge). P e.to) (picked entry_edge file x)
+picked_lead : (P : ℕ → Type 0) (file : ℕ) (x : Result (List Entry) FileFault) → ((es : List Entry) → x ≡ Ok es → All (Leads P) es) → All (λ (e : Edge). P e.to) (picked entry_edge file x)
 picked_lead P file (Ok es) h = edges_lead P file es (h es refl)
 picked_lead P file (Err line) h = All-nil (λ (e : Edge). P e.to)
 

@@ -74,4 +74,4 @@ edges_stay setting listing starts file e among =
     let x = contains_from (entry_edge file) (entries_from setting listing starts file) e among in
     let d = contains_from (entry_of setting.undefined (layout_of listing) starts file) (graph_directives setting listing file) x.0 x.1 in
     edge_stays setting.undefined (is_listed setting.removed file) (leads (layout_of listing) starts file d.0) d.0.kind d.0.line e file x.0
-    (stay_in (is_listed setting.removed file) (file_directives setting.language (phase_text (bytes_at listing file))) d.0 d.1) d.2 x.2
+    (stay_in (is_listed setting.removed file) (file_directives setting.language (phase_text setting.language (bytes_at listing file))) d.0 d.1) d.2 x.2

@@ -3,7 +3,7 @@ use Rattle.std.specs.Prelude.{◌≡◌, ◌≢◌, ℕ, ◌<◌, ◌++◌, List
 use Rattle.std.specs.List.{All}
 use Rattle.inc_text.specs.PhaseText.{phase_text}
 use Rattle.inc_graph.specs.Settings.{Setting}
-use Rattle.inc_directive.specs.FileDirectives.{Directive, bad_line}
+use Rattle.inc_directive.specs.FileDirectives.{Directive}
 use Rattle.inc_directive.specs.declared.files.FileFault.{FileFault}
 use Rattle.inc_lookup.specs.declared.projects.Found.{Found}
 use Rattle.inc_lookup.specs.Projects.{Layout, Listing, layout_of, bytes_at}
@@ -23,17 +23,17 @@ abbrev pub found_lead : Option Found → Lead
 found_lead found = with_found found Nowhere
 
 -- the include directives of a file with these directives, which is found in these ways, and after them the places of the names that it
--- defines among those that no build defines; or the line of its fault
-abbrev pub entries_of : (names : List (List ℕ)) → Layout → (starts : List (Option ℕ)) → ℕ → (places : List ℕ) → Result (List Directive) FileFault → Result (List Entry) ℕ
+-- defines among those that no build defines; or its fault
+abbrev pub entries_of : (names : List (List ℕ)) → Layout → (starts : List (Option ℕ)) → ℕ → (places : List ℕ) → Result (List Directive) FileFault → Result (List Entry) FileFault
 entries_of names layout starts file places (Ok directives) = Ok (filter_map (entry_of names layout starts file) directives ++ map entry.Defines places)
-entries_of names layout starts file places (Err fault) = Err (bad_line fault)
+entries_of names layout starts file places (Err fault) = Err fault
 
 -- those of a file with these bytes
-abbrev pub bytes_entries : Setting → Layout → (starts : List (Option ℕ)) → ℕ → List ℕ → Result (List Entry) ℕ
+abbrev pub bytes_entries : Setting → Layout → (starts : List (Option ℕ)) → ℕ → List ℕ → Result (List Entry) FileFault
 bytes_entries setting layout starts file bytes =
-    entries_of setting.undefined layout starts file (text_definitions setting (phase_text bytes)) (text_directives setting file (phase_text bytes))
+    entries_of setting.undefined layout starts file (text_definitions setting (phase_text setting.language bytes)) (text_directives setting file (phase_text setting.language bytes))
 
-abbrev pub file_entries : Setting → Listing → (starts : List (Option ℕ)) → ℕ → Result (List Entry) ℕ
+abbrev pub file_entries : Setting → Listing → (starts : List (Option ℕ)) → ℕ → Result (List Entry) FileFault
 file_entries setting listing starts file = bytes_entries setting (layout_of listing) starts file (bytes_at listing file)
 
 -- what the directives of a file find that is found so
@@ -43,16 +43,16 @@ directives_found layout at (Err fault) = []
 
 -- those of a file with these bytes
 abbrev pub bytes_found : Setting → Layout → Found → List ℕ → List Found
-bytes_found setting layout at bytes = directives_found layout at (text_directives setting at.file (phase_text bytes))
+bytes_found setting layout at bytes = directives_found layout at (text_directives setting at.file (phase_text setting.language bytes))
 
 -- what is known of a file, if it is read
-abbrev pub seen_state : FileState → Option (Result (List Entry) ℕ)
+abbrev pub seen_state : FileState → Option (Result (List Entry) FileFault)
 seen_state Unread = None
 seen_state (Read entries) = Some (Ok entries)
-seen_state (Bad line) = Some (Err line)
+seen_state (Bad fault) = Some (Err fault)
 
 -- what is known of each of several files, by the places of their records
-abbrev pub states_at : List FileState → List ℕ → List (Option (Result (List Entry) ℕ))
+abbrev pub states_at : List FileState → List ℕ → List (Option (Result (List Entry) FileFault))
 states_at records places = map (λ k. seen_state (slice_index_or records k Unread)) places
 
 -- the first record is of files that are not read, and no two files that are read share one

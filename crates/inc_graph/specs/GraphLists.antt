@@ -1,6 +1,7 @@
 -- The lists of a graph, by what is known of each file.
 use Rattle.std.specs.Prelude.{◌≡◌, ℕ, ◌+◌, ◌==◌, Bool, true, false, filter, slice_index_or, List, [], ◌∷◌, ◌++◌, Option, Some, None, Result, Ok, Err, length, map, fold, if◌then◌else◌, nat_lt}
 use Rattle.std.specs.List.{list_any}
+use Rattle.inc_directive.specs.declared.files.FileFault.{FileFault}
 use Rattle.inc_graph.specs.FileEntries.{Entry}
 use Rattle.inc_graph.specs.declared.building.entries.Entry.TheVariants as entry
 use Rattle.inc_graph.specs.declared.building.GraphRefusal.{GraphRefusal}
@@ -12,11 +13,11 @@ use Rattle.inc_graph.specs.Views.{seen_edge, numbered}
 
 -- what is known of a file, if it is read
 abbrev pub State : Type 0
-State = Option (Result (List Entry) ℕ)
+State = Option (Result (List Entry) FileFault)
 
--- a bad file, with the line of its fault
-abbrev pub bad_state : ℕ → State → List (ℕ × ℕ)
-bad_state file (Some (Err line)) = (file, line) ∷ []
+-- a bad file, with its fault
+abbrev pub bad_state : ℕ → State → List (ℕ × FileFault)
+bad_state file (Some (Err fault)) = (file, fault) ∷ []
 bad_state file _ = []
 
 -- what the files give, from this one on
@@ -24,11 +25,11 @@ abbrev pub collected : {X : Type 0} → (ℕ → State → List X) → ℕ → L
 collected give file [] = []
 collected give file (s ∷ ss) = give file s ++ collected give (file + 1) ss
 
-abbrev pub bad_states : ℕ → List State → List (ℕ × ℕ)
+abbrev pub bad_states : ℕ → List State → List (ℕ × FileFault)
 bad_states file ss = collected bad_state file ss
 
 -- the refusal of the first of these
-abbrev pub first_refusal : List (ℕ × ℕ) → Option GraphRefusal
+abbrev pub first_refusal : List (ℕ × FileFault) → Option GraphRefusal
 first_refusal [] = None
 first_refusal (bad ∷ more) = Some (BadFile bad.0 bad.1)
 

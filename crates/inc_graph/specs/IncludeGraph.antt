@@ -13,7 +13,7 @@ use Rattle.inc_token.specs.TokenLines.{token_lines}
 use Rattle.inc_directive.specs.Groups.{FileLine, file_lines}
 use Rattle.inc_directive.specs.LineKinds.{LineKind, Include, Other, Quoted, Angled, ByName, Computed, defined_name, search_after}
 use Rattle.inc_directive.specs.declared.kinds.DirectiveKind.TheVariants.{Foreign}
-use Rattle.inc_directive.specs.FileDirectives.{Directive, file_directives, bad_line}
+use Rattle.inc_directive.specs.FileDirectives.{Directive, file_directives}
 use Rattle.inc_directive.specs.Removal.{without}
 use Rattle.inc_directive.specs.declared.files.FileFault.{FileFault}
 use Rattle.inc_lookup.specs.declared.projects.Form.{Form}
@@ -47,7 +47,7 @@ abbrev pub text_directives : Setting → (file : ℕ) → List Cell → Result (
 text_directives setting file text = without (is_listed setting.removed file) (file_directives setting.language text)
 
 abbrev pub read_directives : Setting → Listing → ℕ → Result (List Directive) FileFault
-read_directives setting listing file = text_directives setting file (phase_text (bytes_at listing file))
+read_directives setting listing file = text_directives setting file (phase_text setting.language (bytes_at listing file))
 
 -- a bad file has none
 abbrev pub graph_directives : Setting → Listing → ℕ → List Directive
@@ -81,7 +81,7 @@ text_definitions setting text = places_defined setting.undefined (file_lines set
 -- those of a file; a bad file has none
 abbrev pub file_definitions : Setting → Listing → ℕ → List ℕ
 file_definitions setting listing file =
-    elim (read_directives setting listing file) [ Ok directives ↦ text_definitions setting (phase_text (bytes_at listing file)) | Err fault ↦ [] ]
+    elim (read_directives setting listing file) [ Ok directives ↦ text_definitions setting (phase_text setting.language (bytes_at listing file)) | Err fault ↦ [] ]
 
 -- some of these files defines the name at this place
 abbrev pub is_defined_in : Setting → Listing → List ℕ → ℕ → Bool
@@ -254,9 +254,9 @@ pub record Graph : Type 0 where
   -- the directives that leave open which file is read
   pub blockers : List Blocker
 
--- a bad file, at the line of its fault
-abbrev pub bad_file : Setting → Listing → ℕ → Option (ℕ × ℕ)
-bad_file setting listing file = elim (read_directives setting listing file) [ Ok directives ↦ None | Err fault ↦ Some (file, bad_line fault) ]
+-- a bad file, with its fault
+abbrev pub bad_file : Setting → Listing → ℕ → Option (ℕ × FileFault)
+bad_file setting listing file = elim (read_directives setting listing file) [ Ok directives ↦ None | Err fault ↦ Some (file, fault) ]
 
 -- include directives of all files together, and those that are none of C
 abbrev pub most_directives : ℕ
@@ -282,7 +282,7 @@ abbrev pub directive_count : Setting → Listing → (starts : ℕ → List (Opt
 directive_count setting listing starts files = length (flat_map (λ f. entries_from setting listing (starts f) f) files)
 
 -- a bad file, the first of the list, comes before too many directives
-abbrev pub graph_or_bad : List (ℕ × ℕ) → (count : ℕ) → Graph → Result Graph GraphRefusal
+abbrev pub graph_or_bad : List (ℕ × FileFault) → (count : ℕ) → Graph → Result Graph GraphRefusal
 graph_or_bad (bad ∷ more) count g = Err (BadFile bad.0 bad.1)
 graph_or_bad [] count g = sized_graph count g
 
@@ -365,7 +365,7 @@ pub record IsSound (g : Graph) : Type 0 where
 
 -- the file that a refusal names is one of so many
 abbrev pub IsRefusalWithin : ℕ → GraphRefusal → Type 0
-IsRefusalWithin files (BadFile file line) = file < files
+IsRefusalWithin files (BadFile file fault) = file < files
 IsRefusalWithin files (CannotRead file) = file < files
 IsRefusalWithin files (FileTooLong file) = file < files
 IsRefusalWithin files _ = ⊤

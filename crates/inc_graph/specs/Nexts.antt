@@ -85,7 +85,7 @@ nexts_of layout file (Err fault) = []
 
 -- those of a file with these bytes
 abbrev pub bytes_nexts : Setting → Layout → (file : ℕ) → List ℕ → List Next
-bytes_nexts setting layout file bytes = nexts_of layout file (text_directives setting file (phase_text bytes))
+bytes_nexts setting layout file bytes = nexts_of layout file (text_directives setting file (phase_text setting.language bytes))
 
 ---- a further way in which a file is found
 
@@ -100,15 +100,15 @@ abbrev pub led_at : (index file : ℕ) → List Entry → List Entry
 led_at index file es = elim (slice_get es index) [ Some e ↦ slice_set es index (led_entry file e) | None ↦ es ]
 
 -- what is known of a file, if it is read
-abbrev pub led_state : (index file : ℕ) → Option (Result (List Entry) ℕ) → Option (Result (List Entry) ℕ)
+abbrev pub led_state : (index file : ℕ) → Option (Result (List Entry) FileFault) → Option (Result (List Entry) FileFault)
 led_state index file (Some (Ok es)) = Some (Ok (led_at index file es))
 led_state index file s = s
 
 -- an #include_next leads from a file, which is found so, to what it finds there
-abbrev pub followed : Option ℕ → Option (Result (List Entry) ℕ) → Next → Option (Result (List Entry) ℕ)
+abbrev pub followed : Option ℕ → Option (Result (List Entry) FileFault) → Next → Option (Result (List Entry) FileFault)
 followed next s n = option_map_or (λ (f : Found). led_state n.index f.file s) (next_found n next) s
 
-abbrev pub with_nexts : Option ℕ → Option (Result (List Entry) ℕ) → List Next → Option (Result (List Entry) ℕ)
+abbrev pub with_nexts : Option ℕ → Option (Result (List Entry) FileFault) → List Next → Option (Result (List Entry) FileFault)
 with_nexts next s nexts = fold (followed next) s nexts
 
 -- what they find

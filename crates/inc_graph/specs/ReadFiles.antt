@@ -29,7 +29,7 @@ read_fault_of _ = None
 
 -- what the files hold refuses the graph
 abbrev pub IsOfFiles : GraphRefusal → Type 0
-IsOfFiles (BadFile file line) = Unit {0}
+IsOfFiles (BadFile file fault) = Unit {0}
 IsOfFiles TooManyDirectives = Unit {0}
 IsOfFiles _ = ⊥
 

@@ -1,6 +1,6 @@
 -- How the files of a project are read for a graph.
 use Rattle.std.specs.Prelude.{ℕ, List}
-use Rattle.inc_token.specs.declared.kinds.Language.{Language}
+use Rattle.inc_text.specs.declared.languages.Language.{Language}
 use Rattle.inc_lookup.specs.declared.projects.DirectiveId.{DirectiveId}
 use Rattle.inc_lookup.specs.Projects.{each_once}
 

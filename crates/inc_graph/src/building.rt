@@ -18,6 +18,7 @@ use crate::file_sets::FileSet;
 use crate::graphs::{Graph, Parts};
 use crate::missing_lists::MissingList;
 use crate::settings::Setting;
+use inc_directive::FileFault;
 use inc_lookup::{FileId, Project, Sources};
 use std::alloc::{AllocError, AllocFailed, Global};
 use thiserror::Error;
@@ -26,12 +27,12 @@ use thiserror::Error;
 #[derive(Clone, Copy, Debug, PartialEq, Eq, Error)]
 pub enum GraphRefusal {
     /// A file that a source reaches has an unterminated comment, or conditionals that do not balance.
-    #[error("a bad file, at its line {line}")]
+    #[error("a bad file: {fault}")]
     BadFile {
         /// The place of the first such file.
         file: FileId,
-        /// The physical line of its first fault.
-        line: u32,
+        /// Its first fault, which is never that memory ran out.
+        fault: FileFault,
     },
     /// There are more than 1,000,000 directives.
     #[error("too many directives")]

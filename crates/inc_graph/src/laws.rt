@@ -1,7 +1,7 @@
 //! What holds of every include graph. The functions do nothing: what they ensure is what holds.
 ghost use Rattle.std.specs.Prelude.{◌≡◌, ◌≤◌, ◌↔◌, ℕ, false, List, [], Contains, Option, Result, Ok, length, map, IsTrue};
 ghost use Rattle.inc_text.specs.PhaseText.{phase_text};
-ghost use Rattle.inc_token.specs.declared.kinds.Language.{Language};
+ghost use Rattle.inc_text.specs.declared.languages.Language.{Language};
 ghost use Rattle.inc_directive.specs.FileDirectives.{file_directives};
 ghost use Rattle.inc_lookup.specs.DirectiveLists.{is_listed};
 ghost use Rattle.inc_graph.specs.Settings.{Setting, setting_of};
@@ -90,7 +90,7 @@ pub fn held_files_have_the_graph()
 pub fn nothing_removed_changes_nothing()
     ensures { (language : Language) (names : List (List ℕ)) (listing : Listing) (file : ℕ) →
         read_directives (setting_of language [] names) listing file
-        ≡ file_directives language (phase_text (bytes_at listing file)) }
+        ≡ file_directives language (phase_text language (bytes_at listing file)) }
 {}
 
 /// No edge is by a directive that is taken as removed.

@@ -5,7 +5,7 @@ ghost use Rattle.inc_graph.specs.IncludeGraph.{undefined_place};
 ghost use Rattle.inc_graph.specs.Settings.{setting_of};
 
 use inc_lookup::{DirectiveId, DirectiveSet, FileId, NameList};
-use inc_token::Language;
+use inc_text::Language;
 use std::alloc::{AllocError, Global};
 use std::marker::Model;
 

@@ -4,7 +4,7 @@
 use Rattle.std.specs.Prelude.{◌≡◌, ◌≤◌, ℕ, ◌+◌, ◌==◌, ◌&&◌, ◌||◌, not, Bool, true, false, List, [], ◌∷◌, ◌++◌, Option, Some, None, Result, Ok, Err, if◌then◌else◌, length, take, drop, nat_lt, nat_le, slice_index, codes, bytes_eq, filter_map, option_map}
 use Rattle.std.specs.List.{list_any, prefix_len, slice_split}
 use Rattle.inc_text.specs.Ascii.{blank, close_parenthesis, equals, line_feed, open_parenthesis}
-use Rattle.inc_token.specs.declared.kinds.Language.{Language}
+use Rattle.inc_text.specs.declared.languages.Language.{Language}
 use Rattle.inc_macro.specs.Macros.{is_among, predefined_names}
 use Rattle.inc_inputs.specs.Lists.{list_paths, without_return}
 use Rattle.inc_inputs.specs.declared.file_lists.PathEnd.TheVariants.{LineFeed}

@@ -2,7 +2,7 @@
 use Rattle.std.specs.Prelude.{◌≡◌, ℕ, Bool, true, false, List, [], Option, Some, None, Result, Ok, Err}
 use Rattle.inc_graph.specs.Marks.{Mark}
 use Rattle.inc_args.specs.Meaning.{Preprocessing}
-use Rattle.inc_token.specs.declared.kinds.Language.{Language}
+use Rattle.inc_text.specs.declared.languages.Language.{Language}
 use Rattle.inc_inputs.specs.Defines.{defined_words}
 use Rattle.inc_inputs.specs.Inputs.{Gives}
 use Rattle.inc_inputs.specs.ProjectLists.{list_of}

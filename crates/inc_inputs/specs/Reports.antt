@@ -1,5 +1,5 @@
 -- What the program reports of a failure: a line on standard error, and the exit status.
-use Rattle.std.specs.Prelude.{◌≡◌, ℕ, List, [], ◌∷◌, ◌++◌, slice_index_or, codes, decimal}
+use Rattle.std.specs.Prelude.{◌≡◌, ℕ, ◌+◌, ◌/◌, ◌%◌, ◌==◌, ◌&&◌, not, List, [], ◌∷◌, ◌++◌, if◌then◌else◌, slice_index_or, codes, decimal, flat_map, nat_lt}
 use Rattle.inc_lookup.specs.declared.projects.ProjectFault.{ProjectFault}
 use Rattle.inc_lookup.specs.declared.projects.ProjectFault.TheVariants as project
 use Rattle.inc_text.specs.declared.devices.ReadFault.{ReadFault}
@@ -8,18 +8,41 @@ use Rattle.inc_check.specs.declared.read_texts.CertFault.{CertFault}
 use Rattle.inc_check.specs.declared.read_texts.CertFault.TheVariants as list
 use Rattle.inc_inputs.specs.declared.failures.Failure.{Failure}
 use Rattle.inc_inputs.specs.declared.failures.Failure.TheVariants as failure
+use Rattle.inc_inputs.specs.declared.failures.Hindrance.{Hindrance}
+use Rattle.inc_inputs.specs.declared.failures.Hindrance.TheVariants as hindrance
 
 pub record Report : Type 0 where
   -- what follows `incut: ` on its line
   pub message : List ℕ
   pub status : ℕ
 
--- a text, a path after it as it was written, and a status
+-- a digit in base 16
+abbrev pub hex_digit : ℕ → ℕ
+hex_digit n = if nat_lt n 10 then 48 + n else 87 + n
+
+-- a byte of a path, a control byte as \xNN
+abbrev pub shown_byte : ℕ → List ℕ
+shown_byte b = if nat_lt 31 b && not (b == 127) then b ∷ [] else (codes "\\x" ++ hex_digit (b / 16) ∷ []) ++ hex_digit (b % 16) ∷ []
+
+-- a path on one line
+abbrev pub shown : List ℕ → List ℕ
+shown path = flat_map shown_byte path
+
+-- a text, what follows it, and a status
 abbrev pub about_path : List ℕ → List ℕ → ℕ → Report
 about_path text path status = record { message = text ++ path; status = status }
 
 abbrev pub cannot_read : List ℕ → Report
 cannot_read path = about_path (codes "cannot read ") path 3
+
+-- what stood in the way of a file, after its path
+abbrev pub hindrance_text : Hindrance → List ℕ
+hindrance_text hindrance.Other = []
+hindrance_text hindrance.Link = codes ": is a link"
+hindrance_text hindrance.NoRegularFile = codes ": is not a regular file"
+
+abbrev pub cannot_read_for : Hindrance → (path : List ℕ) → Report
+cannot_read_for h path = cannot_read (path ++ hindrance_text h)
 
 abbrev pub file_too_long : List ℕ → Report
 file_too_long path = about_path (codes "file too long: ") path 4
@@ -40,6 +63,10 @@ too_many_files = record { message = codes "too many files"; status = 4 }
 abbrev pub cannot_write : Report
 cannot_write = record { message = codes "cannot write"; status = 3 }
 
+-- the file of this name is not written whole
+abbrev pub cannot_write_file : List ℕ → Report
+cannot_write_file name = about_path (codes "cannot write ") name 3
+
 abbrev pub out_of_memory : Report
 out_of_memory = record { message = codes "out of memory"; status = 5 }
 
@@ -54,6 +81,12 @@ two_lists = record { message = codes "--files and --root exclude each other"; st
 
 abbrev pub input_twice : Report
 input_twice = record { message = codes "standard input can be read only once"; status = 2 }
+
+abbrev pub no_file : Report
+no_file = record { message = codes "'-' is no file to write"; status = 2 }
+
+abbrev pub one_file : Report
+one_file = record { message = codes "--deps and --status name one file"; status = 2 }
 
 abbrev pub no_ends : Report
 no_ends = record { message = codes "name SOURCE and HEADER, or give --from and --to"; status = 2 }
@@ -78,7 +111,7 @@ no_line option word = about_option option word (codes "' names no line") 2
 -- of a word for a header in which several paths end; two of them are named
 abbrev pub several_headers : (word first second : List ℕ) → Report
 several_headers word first second =
-    record { message = codes "several files end in " ++ word ++ codes ": " ++ first ++ codes ", " ++ second; status = 4 }
+    record { message = codes "several files end in " ++ word ++ codes ": " ++ shown first ++ codes ", " ++ shown second; status = 4 }
 
 abbrev pub no_source_left : Report
 no_source_left = record { message = codes "each file of --from is one of --to"; status = 4 }
@@ -87,6 +120,9 @@ abbrev pub report_of : Failure → Report
 report_of failure.NotUtf8 = record { message = codes "an argument is not UTF-8"; status = 2 }
 report_of (failure.CannotRead path) = cannot_read path.items
 report_of failure.CannotWrite = cannot_write
+report_of (failure.CannotWriteFile name) = cannot_write_file name.items
+report_of failure.NoFile = no_file
+report_of failure.OneFile = one_file
 report_of (failure.FileTooLong path) = file_too_long path.items
 report_of failure.TooManyFiles = too_many_files
 report_of (failure.BadPath path) = bad_path path.items
@@ -133,6 +169,6 @@ IsListReport IsMalformedAt path r =
 -- what is reported of paths and directories that make no project, the paths first; of two equal paths the second
 abbrev pub project_report : ProjectFault → (written : List (List ℕ)) → Report
 project_report project.TooManyFiles written = too_many_files
-project_report (project.BadPath i) written = bad_path (slice_index_or written i [])
-project_report (project.SamePath first second) written = same_path (slice_index_or written second [])
+project_report (project.BadPath i) written = bad_path (shown (slice_index_or written i []))
+project_report (project.SamePath first second) written = same_path (shown (slice_index_or written second []))
 project_report project.NoMemory written = out_of_memory

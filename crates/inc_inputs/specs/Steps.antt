@@ -1,9 +1,9 @@
 -- Steps of a run. A step leads from one state of the inputs to another, and comes to a value, or to the report of a failure, which ends the
 -- run. So what is read, in which order, and which failure is the first is said by one definition.
-use Rattle.std.specs.Prelude.{◌≡◌, ◌≢◌, ℕ, List, [], Option, Some, None, Result, Ok, Err}
+use Rattle.std.specs.Prelude.{◌≡◌, ◌≢◌, ℕ, Bool, true, false, List, [], Option, Some, None, Result, Ok, Err}
 use Rattle.inc_text.specs.declared.devices.ReadFault.{ReadFault}
-use Rattle.inc_inputs.specs.Inputs.{Gives, Input, named}
-use Rattle.inc_inputs.specs.Reports.{Report, out_of_memory, read_report}
+use Rattle.inc_inputs.specs.Inputs.{Gives, Input, Puts, named}
+use Rattle.inc_inputs.specs.Reports.{Report, cannot_write_file, out_of_memory, read_report}
 
 abbrev pub Step : Type 0 → Type 0 → Type 1
 Step S A = S → Result A Report → S → Type 0
@@ -42,6 +42,21 @@ reads gives name = reads_as gives name (named name)
 abbrev pub reads_if : {S : Type 0} → Gives S → Option (List ℕ) → Step S (List ℕ)
 reads_if gives None = comes_to (Ok [])
 reads_if gives (Some name) = reads gives name
+
+-- what a writing comes to, of the whole text or not
+abbrev pub wrote : (name : List ℕ) → (whole : Bool) → Result (Unit {0}) Report
+wrote name true = Ok tt
+wrote name false = Err (cannot_write_file name)
+
+-- this text is written to the file that a word names
+abbrev pub writes_file : {S : Type 0} → Puts S → (name text : List ℕ) → Step S (Unit {0})
+writes_file puts name text old answer new =
+    (whole : Bool) × puts old name text whole new × (answer ≡ wrote name whole)
+
+-- the same where there is such a word, and else nothing
+abbrev pub writes_if : {S : Type 0} → Puts S → (name : Option (List ℕ)) → (text : List ℕ) → Step S (Unit {0})
+writes_if puts None text = comes_to (Ok tt)
+writes_if puts (Some name) text = writes_file puts name text
 
 -- what a step comes to, unless memory ran out
 abbrev pub Comes : {S A : Type 0} → Step S A → S → Result A Report → S → Type 0

@@ -22,6 +22,12 @@ names_input name = option_map_or (λ word. bytes_eq word (codes "-")) name false
 abbrev pub are_twice : List (Option (List ℕ)) → Bool
 are_twice names = nat_lt 1 (count_by names_input names)
 
+-- two words for files are the same
+abbrev pub are_one : (first second : Option (List ℕ)) → Bool
+are_one (Some a) (Some b) = bytes_eq a b
+are_one None second = false
+are_one (Some a) None = false
+
 -- the step, or the failure in its place
 abbrev pub unless : {S A : Type 0} → Bool → Report → Step S A → Step S A
 unless true report step = comes_to (Err report)

@@ -3,7 +3,7 @@ use Rattle.std.specs.Prelude.{ℕ, Bool, true, false, List, [], ◌∷◌, Optio
 use Rattle.inc_token.specs.Spellings.{class_of}
 use Rattle.inc_token.specs.declared.kinds.Kind.{Kind}
 use Rattle.inc_token.specs.declared.kinds.Kind.TheVariants.{Identifier}
-use Rattle.inc_token.specs.declared.kinds.Language.{Language}
+use Rattle.inc_text.specs.declared.languages.Language.{Language}
 use Rattle.inc_macro.specs.Macros.{is_reserved}
 use Rattle.inc_inputs.specs.Reports.{Report, about_option}
 
@@ -21,7 +21,7 @@ no_identifier name = about_option (codes "--undefined") name (codes "' is not an
 -- what is reported of a name that cannot be left undefined
 abbrev pub name_report : Language → List ℕ → Option Report
 name_report language name =
-    if is_identifier (class_of name) then (if is_reserved language name then Some (always_defined name) else None)
+    if is_identifier (class_of language name) then (if is_reserved language name then Some (always_defined name) else None)
     else Some (no_identifier name)
 
 -- of these names, what is reported of the first that cannot

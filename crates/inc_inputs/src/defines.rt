@@ -9,7 +9,7 @@ ghost use Rattle.inc_text.specs.Ascii.{close_parenthesis, equals, line_feed, ope
 use crate::file_lists::{PathEnd, first_end, list_paths, without_return};
 use inc_check::CertFault;
 use inc_macro::Macros;
-use inc_token::Language;
+use inc_text::Language;
 use std::alloc::{AllocError, Global};
 
 /// How a line of a list begins.

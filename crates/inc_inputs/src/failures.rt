@@ -1,6 +1,6 @@
 //! Why the program gives no answer, and what it reports of that.
-ghost use Rattle.std.specs.Prelude.{◌≡◌, ◌≢◌, ◌++◌, [], IfOk, map, slice_index_or, codes, decimal};
-ghost use Rattle.inc_inputs.specs.Reports.{about_option, bad_glob, fits_none, no_line, out_of_memory, report_of, read_report, list_report, project_report, several_headers};
+ghost use Rattle.std.specs.Prelude.{◌≡◌, ◌≢◌, ◌<◌, ◌++◌, [], IfOk, OnOk, map, slice_index_or, codes, decimal};
+ghost use Rattle.inc_inputs.specs.Reports.{about_option, bad_glob, fits_none, hex_digit, hindrance_text, no_line, out_of_memory, report_of, read_report, list_report, project_report, several_headers, shown, shown_byte};
 
 use inc_check::CertFault;
 use inc_lookup::ProjectFault;
@@ -8,15 +8,41 @@ use inc_text::ReadFault;
 use itoa::Buffer;
 use std::alloc::{AllocError, AllocFailed, Global};
 
-/// Why the program ends without an answer. Paths are as they were written, of any bytes.
+/// What stood in the way of a file of the list that could not be read.
+#[derive(Clone, Copy, Debug, PartialEq, Eq)]
+pub enum Hindrance {
+    /// The system, or nothing that is known.
+    Other,
+    /// A link on the way to it, or the file is one.
+    Link,
+    /// It is a device, a pipe or a directory.
+    NoRegularFile,
+}
+
+impl Hindrance {
+    /// What is reported of it after the path.
+    pub fn text(self) -> &'static [u8]
+        ensures { result.now ≡ hindrance_text self }
+    {
+        match self {
+            Hindrance::Other => b"",
+            Hindrance::Link => b": is a link",
+            Hindrance::NoRegularFile => b": is not a regular file",
+        }
+    }
+}
+
+/// Why the program ends without an answer. Paths are as they were written, those of lists as they are shown.
 #[derive(Drop)]
 pub enum Failure {
     /// An argument is not UTF-8.
     NotUtf8,
-    /// A file, or standard input under the name `-`, cannot be read.
+    /// A file, or standard input under the name `-`, cannot be read. What stood in its way may follow.
     CannotRead(Vec<u8>),
     /// Standard output cannot be written.
     CannotWrite,
+    /// A file cannot be written.
+    CannotWriteFile(Vec<u8>),
     /// A file has more than 16,777,216 bytes.
     FileTooLong(Vec<u8>),
     /// The list has more than 65,535 files.
@@ -29,6 +55,10 @@ pub enum Failure {
     MalformedList(Vec<u8>),
     /// Two arguments ask for standard input.
     InputTwice,
+    /// A file is to be written under the name `-`.
+    NoFile,
+    /// Two texts are to be written to one file.
+    OneFile,
     /// A cut is asked for as files and as a diff.
     TwoForms,
     /// The files are said to be in two languages.
@@ -170,16 +200,16 @@ pub(crate) fn several_headers(alloc: Global, word: &[u8], first: &[u8], second: 
     }
 }
 
-/// A word and two paths.
+/// A word and two paths, as they are shown.
 fn word_text(alloc: Global, word: &[u8], first: &[u8], second: &[u8]) -> Result<Vec<u8>, AllocError>
-    ensures { IfOk result (λ text. text.items ≡ word.now ++ codes ": " ++ first.now ++ codes ", " ++ second.now) }
+    ensures { IfOk result (λ text. text.items ≡ word.now ++ codes ": " ++ shown first.now ++ codes ", " ++ shown second.now) }
 {
     let mut text = Vec::new(alloc);
     text.extend_from_slice(word)?;
     text.extend_from_slice(b": ")?;
-    text.extend_from_slice(first)?;
+    put_shown(&mut text, first)?;
     text.extend_from_slice(b", ")?;
-    text.extend_from_slice(second)?;
+    put_shown(&mut text, second)?;
     Ok(text)
 }
 
@@ -215,7 +245,7 @@ pub fn project_failure(
     })
 }
 
-/// The path at a place, as it was written: those of the files come first, and then the directories.
+/// The path at a place, as it was written, but on one line: those of the files come first, and then the directories.
 pub fn written(
     alloc: Global,
     index: usize,
@@ -223,15 +253,56 @@ pub fn written(
     dirs: &[&[u8]],
 ) -> Result<Vec<u8>, AllocError>
     ensures { IfOk result (λ path. path.items ≡
-        slice_index_or (map (λ p. p.now) paths.now ++ map (λ d. d.now) dirs.now) index []) }
+        shown (slice_index_or (map (λ p. p.now) paths.now ++ map (λ d. d.now) dirs.now) index [])) }
 {
     if index < paths.len() {
-        return Vec::from_slice(alloc, paths[index]);
+        return shown(alloc, paths[index]);
     }
     match dirs.get(index - paths.len()) {
-        Some(dir) => Vec::from_slice(alloc, dir),
+        Some(dir) => shown(alloc, dir),
         None => Ok(Vec::new(alloc)),
     }
+}
+
+/// A path as it is shown: a control byte as `\xNN`, so that it stays on its line, whoever chose it.
+fn shown(alloc: Global, path: &[u8]) -> Result<Vec<u8>, AllocError>
+    ensures { IfOk result (λ text. text.items ≡ shown path.now) }
+{
+    let mut text = Vec::new(alloc);
+    put_shown(&mut text, path)?;
+    Ok(text)
+}
+
+/// Adds a path as it is shown.
+fn put_shown(text: &mut Vec<u8>, path: &[u8]) -> Result<(), AllocError>
+    ensures { OnOk result (text.new.items ≡ text.old.items ++ shown path.now) }
+{
+    for byte in path {
+        put_shown_byte(text, *byte)?;
+    }
+    Ok(())
+}
+
+/// Adds a byte of a path as it is shown.
+fn put_shown_byte(text: &mut Vec<u8>, byte: u8) -> Result<(), AllocError>
+    ensures { OnOk result (text.new.items ≡ text.old.items ++ shown_byte byte) }
+{
+    if 31 < byte && byte != 127 {
+        text.push(byte)?;
+        return Ok(());
+    }
+    text.extend_from_slice(b"\\x")?;
+    text.push(hex_digit(byte / 16))?;
+    text.push(hex_digit(byte % 16))?;
+    Ok(())
+}
+
+/// A digit in base 16.
+fn hex_digit(n: u8) -> u8
+    requires { n < 16 }
+    ensures { result ≡ hex_digit n }
+{
+    if n < 10 { 48 + n } else { 87 + n }
 }
 
 impl Failure {
@@ -243,12 +314,15 @@ impl Failure {
             Failure::NotUtf8 => (b"an argument is not UTF-8", b""),
             Failure::CannotRead(path) => (b"cannot read ", path),
             Failure::CannotWrite => (b"cannot write", b""),
+            Failure::CannotWriteFile(name) => (b"cannot write ", name),
             Failure::FileTooLong(path) => (b"file too long: ", path),
             Failure::TooManyFiles => (b"too many files", b""),
             Failure::BadPath(path) => (b"bad path: ", path),
             Failure::SamePath(path) => (b"same path twice: ", path),
             Failure::MalformedList(at) => (b"malformed list: line ", at),
             Failure::InputTwice => (b"standard input can be read only once", b""),
+            Failure::NoFile => (b"'-' is no file to write", b""),
+            Failure::OneFile => (b"--deps and --status name one file", b""),
             Failure::TwoForms => (b"--blank and --patch exclude each other", b""),
             Failure::TwoLanguages => (b"--extended and --gnu exclude each other", b""),
             Failure::TwoLists => (b"--files and --root exclude each other", b""),
@@ -271,6 +345,8 @@ impl Failure {
         match self {
             Failure::NotUtf8
             | Failure::InputTwice
+            | Failure::NoFile
+            | Failure::OneFile
             | Failure::TwoForms
             | Failure::TwoLanguages
             | Failure::TwoLists
@@ -279,7 +355,7 @@ impl Failure {
             | Failure::BadGlob(_)
             | Failure::NoLine(_)
             | Failure::NotUndefined(_) => 2,
-            Failure::CannotRead(_) | Failure::CannotWrite => 3,
+            Failure::CannotRead(_) | Failure::CannotWrite | Failure::CannotWriteFile(_) => 3,
             Failure::FileTooLong(_)
             | Failure::TooManyFiles
             | Failure::BadPath(_)

@@ -1,25 +1,40 @@
-//! What a run reads.
-ghost use Rattle.std.specs.Prelude.{◌≡◌, ◌≤◌, ℕ, List, Option, Result, Some, vec_len, IfOk};
+//! What a run reads, and the files that it writes.
+ghost use Rattle.std.specs.Prelude.{◌≡◌, ◌≤◌, ℕ, Bool, List, Option, Result, Some, vec_len, is_ok, IfOk};
 ghost use Rattle.inc_text.specs.declared.devices.TheConstants.{LONGEST_FILE};
 ghost use Rattle.inc_text.specs.declared.devices.ReadFault.{ReadFault};
 ghost use Rattle.inc_lookup.specs.Views.{seen_answer};
-ghost use Rattle.inc_inputs.specs.Inputs.{FileAt, FilesBelow, Input, StandardInput, listed, named};
+ghost use Rattle.inc_inputs.specs.Inputs.{FileAt, FilesBelow, Input, ListedAt, StandardInput, listed, named};
 
 use inc_lookup::{FileId, Sources};
-use inc_text::{ByteSource, ReadFault};
+use inc_text::{ByteSource, DeviceFault, ReadFault};
 use std::alloc::{AllocError, Global};
 
-/// The files, and the standard input, that a run reads.
+/// The files, and the standard input, that a run reads, and the files that it writes.
 pub trait Inputs: Drop {
     // a reading of an input may answer this, and leads from one state to another
     ghost gives: { Self → Input → Result (List ℕ) ReadFault → Self → Type 0 };
     // what is read piece by piece, for the input that a word names
     ghost opens: { Self → List ℕ → Self.Stream → Type 0 };
 
+    // whether links are followed on the way to the files of the list is set, and that leads from one state to another
+    ghost begins: { Self → Bool → Self → Type 0 };
+
+    // a text that is to be the file of a name is written whole, or not, and that leads from one state to another
+    ghost puts: { Self → (name text : List ℕ) → (whole : Bool) → Self → Type 0 };
+
     /// What is read piece by piece.
     type Stream: ByteSource + Drop;
 
-    /// The bytes of the file at a path: at most 16,777,216.
+    /// Sets whether links are followed on the way to the files of the list, before any of them is read.
+    fn begin(&mut self, follows: bool)
+        ensures { begins self.old follows self.new };
+
+    /// The bytes of the file of the project at this path of the list: at most 16,777,216.
+    fn read_listed(&mut self, alloc: Global, path: &[u8]) -> Result<Vec<u8>, ReadFault>
+        ensures gives { gives self.old (ListedAt path.now) (seen_answer result) self.new }
+        ensures short { IfOk result (λ bytes. vec_len bytes ≤ LONGEST_FILE) };
+
+    /// The bytes of the file at a path that a word is: at most 16,777,216.
     fn read_file(&mut self, alloc: Global, path: &[u8]) -> Result<Vec<u8>, ReadFault>
         ensures gives { gives self.old (FileAt path.now) (seen_answer result) self.new }
         ensures short { IfOk result (λ bytes. vec_len bytes ≤ LONGEST_FILE) };
@@ -36,6 +51,10 @@ pub trait Inputs: Drop {
     /// What a word names, to be read piece by piece; `-` is standard input. Nothing is read yet.
     fn open(&self, alloc: Global, name: &str) -> Result<Self::Stream, AllocError>
         ensures { IfOk result (λ stream. opens self.now name.now stream) };
+
+    /// Creates the file that a word names, or empties it if it is there, and writes a text to it.
+    fn write_file(&mut self, name: &str, text: &[u8]) -> Result<(), DeviceFault>
+        ensures { puts self.old name.now text.now (is_ok result) self.new };
 }
 
 /// The bytes of what a word names; `-` is standard input.
@@ -68,7 +87,7 @@ impl<I: Inputs> Sources for ListedFiles<'_, I> {
 
     fn read(&mut self, alloc: Global, file: FileId) -> Result<Vec<u8>, ReadFault> {
         match self.paths.get(file.index()) {
-            Some(path) => self.inputs.read_file(alloc, path),
+            Some(path) => self.inputs.read_listed(alloc, path),
             None => Err(ReadFault::Read),
         }
     }

@@ -13,7 +13,7 @@ use crate::project_lists::read_list;
 use crate::texts::{read_directives, read_text};
 use inc_args::PpArgs;
 use inc_graph::Mark;
-use inc_token::Language;
+use inc_text::Language;
 use std::alloc::{AllocError, Global};
 
 /// A list of definitions.

@@ -7,7 +7,8 @@ ghost use Rattle.inc_inputs.specs.UndefinedNames.{is_identifier, name_report, na
 use crate::ends::add_word;
 use crate::failures::{Failure, not_undefined};
 use inc_macro::is_reserved;
-use inc_token::{Kind, Language, kind_of};
+use inc_text::Language;
+use inc_token::{Kind, kind_of};
 use std::alloc::{AllocError, Global};
 
 /// What is to be reported of the first of these names that a build cannot leave undefined: no identifier, or a name that is predefined or
@@ -30,7 +31,7 @@ fn name_failure(alloc: Global, language: Language, name: &str) -> Option<Failure
     ensures { MatchOption result (name_report language name.now ≡ None)
         (λ failure. report_of failure ≢ out_of_memory → name_report language name.now ≡ Some (report_of failure)) }
 {
-    if !is_identifier(name.as_bytes()) {
+    if !is_identifier(language, name.as_bytes()) {
         return Some(not_undefined(alloc, name, "' is not an identifier"));
     }
     if is_reserved(language, name.as_bytes()) {
@@ -41,10 +42,10 @@ fn name_failure(alloc: Global, language: Language, name: &str) -> Option<Failure
 }
 
 /// Whether a text is an identifier.
-fn is_identifier(text: &[u8]) -> bool
-    ensures { result ≡ is_identifier (class_of text.now) }
+fn is_identifier(language: Language, text: &[u8]) -> bool
+    ensures { result ≡ is_identifier (class_of language text.now) }
 {
-    matches!(kind_of(text), Some(Kind::Identifier))
+    matches!(kind_of(language, text), Some(Kind::Identifier))
 }
 
 /// The bytes of words.

@@ -5,7 +5,7 @@ use Rattle.std.proofs.Math.Path.{fun_ext}
 use Rattle.std.specs.Cmp.Lexicographic.{nat_list_eq_equiv}
 use Rattle.std.proofs.lemmas.List.{reverse-append}
 use Rattle.std.proofs.lemmas.Slice.Eq.{bytes_eq-Decides}
-use Rattle.inc_token.specs.declared.kinds.Language.{Language}
+use Rattle.inc_text.specs.declared.languages.Language.{Language}
 use Rattle.inc_macro.specs.Macros.{Definition, Table, pop_macro, popped, push_macro, with_found, with_new, with_other, without}
 use Rattle.inc_macro.specs.Tables.{Entries, Stacks, found, stack_of}
 use Rattle.inc_macro.proofs.TableLaws.{differ}

@@ -5,7 +5,7 @@ use Rattle.inc_macro.specs.Macros.{Params, begins_with_bad_comma, begins_with_ch
 use Rattle.inc_macro.specs.Views.{spellings_in}
 use Rattle.inc_macro.proofs.TokenTexts.{no_token, texts_at}
 
-drop-later : {X : Type 0} (k n m : ℕ) (xs : List X) → n + k ≡ m → drop k (drop n xs) ≡ drop m xs
+pub drop-later : {X : Type 0} (k n m : ℕ) (xs : List X) → n + k ≡ m → drop k (drop n xs) ≡ drop m xs
 drop-later k zero m xs is = let same : k ≡ m = omega (arith, is) in ap (λ j. drop j xs) same
 drop-later k (suc n) zero xs is = absurd (omega (arith, is))
 drop-later zero (suc n) (suc m) [] is = refl

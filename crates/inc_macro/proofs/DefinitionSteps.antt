@@ -1,7 +1,7 @@
 -- A definition that is read part by part.
 use Rattle.std.proofs.Common.{◌≡◌, ℕ, true, false, List, [], ◌∷◌, Option, Some, None, Result, Ok, Err, length, nat_lt, refl, sym, ap, ◌∙◌, ⊎_elim}
 use Rattle.std.proofs.lemmas.Bool.{cases_Bool}
-use Rattle.inc_token.specs.declared.kinds.Language.{Language}
+use Rattle.inc_text.specs.declared.languages.Language.{Language}
 use Rattle.inc_token.specs.TokenLines.{Tok}
 use Rattle.inc_macro.specs.Macros.{Params, Definition, Table, are_good, body_fault, body_of, define, definition_after, definition_in, function_like, is_open, or_fault, parameter_list, redefined, same_definition, spellings, with_definition, with_new}
 use Rattle.inc_macro.specs.NameLists.{counted, signature_of, with_parameters}

@@ -5,7 +5,7 @@ use Rattle.std.specs.Cmp.Lexicographic.{nat_list_eq_equiv}
 use Rattle.std.proofs.lemmas.Bool.{cases_Bool}
 use Rattle.std.proofs.lemmas.List.{append-nil}
 use Rattle.inc_token.specs.TokenLines.{Tok}
-use Rattle.inc_token.specs.declared.kinds.Language.{Language}
+use Rattle.inc_text.specs.declared.languages.Language.{Language}
 use Rattle.inc_macro.specs.Macros.{Params, Variable, are_good, is_among, is_distinct, are_good_names, is_dots, is_identifier_kind, is_other, is_spelled, named, named_last, parameters, parameter_list, stands_first, unnamed, with_name, va_args}
 use Rattle.inc_macro.specs.NameLists.{named_with, names_from, names_in}
 

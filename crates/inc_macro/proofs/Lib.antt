@@ -5,6 +5,7 @@ pub mod TokenTexts
 pub mod Positions
 pub mod BodyTokens
 pub mod BodyCommas
+pub mod OptionalParts
 pub mod WordTexts
 pub mod WordSearches
 pub mod WordLines
@@ -20,5 +21,6 @@ pub mod DefinitionSteps
 pub mod TableLaws
 pub mod UndefinedNames
 pub mod NameLengths
+pub mod TakenDefinitions
 pub mod TakenSlots
 pub mod MemoryFaults

@@ -1,13 +1,12 @@
 -- No definition is refused for want of memory: the definitions know none.
 use Rattle.std.proofs.Common.{ℕ, ◌&&◌, ◌||◌, not, Bool, true, false, List, [], ◌∷◌, Option, Some, None, Result, Ok, Err, length, nat_lt}
-use Rattle.std.specs.Prelude.{◌≢◌, IfErr, IfSome, bytes_eq, is_some, if◌then◌else◌}
-use Rattle.std.specs.List.{list_any}
+use Rattle.std.specs.Prelude.{◌≢◌, IfErr, IfSome, is_some, if◌then◌else◌}
 use Rattle.inc_text.specs.PhaseText.{phase_text}
-use Rattle.inc_token.specs.declared.kinds.Language.{Language}
-use Rattle.inc_token.specs.declared.kinds.Language.TheVariants.{C17, Extended, Gnu}
+use Rattle.inc_text.specs.declared.languages.Language.{Language}
+use Rattle.inc_text.specs.declared.languages.Language.TheVariants.{C17, Extended, Gnu}
 use Rattle.inc_token.specs.TokenLines.{Tok, TokenLine, token_lines}
 use Rattle.inc_token.specs.declared.lines.LexFault.{LexFault}
-use Rattle.inc_macro.specs.Macros.{Definition, Params, Table, params_or_none, parameter_names, are_good, spellings, has_bad_comma, has_lone_hash, has_stray_va_args, takes_comma, va_opt, variable_fault, begins_with_paste, ends_in_paste, body_fault, or_fault, checked, body_of, object_like, parameter_list, function_like, is_open, definition_after, is_identifier_kind, is_reserved, name_at, after_first, definition_in, same_definition, redefined, with_definition, definition_of, define, undef, tokens_or_bad, word_text, is_bad_word, word_tokens, define_word}
+use Rattle.inc_macro.specs.Macros.{Definition, Params, Table, after_first, are_good, begins_with_paste, body_fault, body_of, checked, define, define_word, definition_after, definition_in, definition_of, ends_in_paste, function_like, has_bad_comma, has_bad_optional, has_lone_hash, has_stray_va_args, is_among, is_bad_word, is_identifier_kind, is_open, is_reserved, name_at, object_like, operand_names, or_fault, parameter_list, parameter_names, params_or_none, redefined, same_definition, spellings, takes_comma, tokens_or_bad, undef, va_opt, variable_fault, with_definition, word_text, word_tokens}
 use Rattle.inc_macro.specs.Results.{◌>>=◌}
 use Rattle.inc_macro.specs.declared.faults.DefineFault.{DefineFault}
 use Rattle.inc_macro.specs.declared.faults.DefineFault.TheVariants.{NoName, ReservedName, BadParameters, TooManyParameters, PasteAtEnd, BadWord, BadComma, NoMemory}
@@ -31,12 +30,12 @@ variable_has : (given : Option Params) (texts : List (List ℕ)) → IfSome (var
 variable_has None texts = tt
 variable_has (Some p) texts =
     if_some (not (takes_comma p)) None _ tt
-    (if_some (list_any (bytes_eq va_opt) texts) _ _ (λ e. cc) (if_some (has_bad_comma p texts) (Some BadComma) None (λ e. cc) tt))
+    (if_some (is_among va_opt (parameter_names (Some p)) || has_bad_optional texts) _ _ (λ e. cc) (if_some (has_bad_comma p texts) (Some BadComma) None (λ e. cc) tt))
 
 body_has : (language : Language) (given : Option Params) (texts : List (List ℕ)) → IfSome (body_fault language given texts) (λ f. f ≢ NoMemory)
 body_has language given texts =
     if_some (has_stray_va_args language given texts) _ _ (λ e. cc)
-    (if_some (is_some given && has_lone_hash (parameter_names given) texts) _ _ (λ e. cc)
+    (if_some (is_some given && has_lone_hash (operand_names given) texts) _ _ (λ e. cc)
     (if_some (begins_with_paste texts || ends_in_paste texts) (Some PasteAtEnd) _ (λ e. cc) (variable_has given texts)))
 
 or_has : (d : Definition) (fault : Option DefineFault) → IfSome fault (λ f. f ≢ NoMemory) → Has (or_fault d fault)
@@ -89,7 +88,7 @@ tokens_have (Err fault) = λ e. cc
 
 pub define_word_has : (word : List ℕ) (table : Table) → Has (define_word word table)
 define_word_has word table =
-    let lines = token_lines table.language (phase_text (word_text word)) in
+    let lines = token_lines table.language (phase_text table.language (word_text word)) in
     then_has (word_tokens table.language word) _
     (if_has (is_bad_word word) (Err BadWord) (tokens_or_bad lines) (λ e. cc) (tokens_have lines))
     (λ tokens. define_has tokens table)

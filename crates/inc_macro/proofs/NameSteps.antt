@@ -1,6 +1,6 @@
 -- A list of parameters that is read name by name.
 use Rattle.std.proofs.Common.{◌≡◌, ℕ, zero, suc, true, false, List, [], ◌∷◌, ◌++◌, Some, None, drop, length, ◌<◌, ◌≤◌, arith, refl, ap, ◌∙◌, codes}
-use Rattle.inc_token.specs.declared.kinds.Language.{Language}
+use Rattle.inc_text.specs.declared.languages.Language.{Language}
 use Rattle.inc_token.specs.TokenLines.{Tok}
 use Rattle.inc_macro.specs.Macros.{is_dots, is_spelled, stands_first, unnamed}
 use Rattle.inc_macro.specs.NameLists.{is_new_name, named_with, names_from, names_in, parameters_with}

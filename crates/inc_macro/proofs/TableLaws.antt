@@ -4,8 +4,8 @@ use Rattle.std.proofs.Math.Path.{fun_ext}
 use Rattle.std.specs.Cmp.Lexicographic.{nat_list_eq_equiv}
 use Rattle.std.proofs.lemmas.Bool.{cases_Bool, cond_both}
 use Rattle.std.proofs.lemmas.Slice.Eq.{bytes_eq-Decides}
-use Rattle.inc_token.specs.declared.kinds.Language.{Language}
-use Rattle.inc_token.specs.declared.kinds.Language.TheVariants.{C17, Extended, Gnu}
+use Rattle.inc_text.specs.declared.languages.Language.{Language}
+use Rattle.inc_text.specs.declared.languages.Language.TheVariants.{C17, Extended, Gnu}
 use Rattle.inc_token.specs.TokenLines.{Tok}
 use Rattle.inc_macro.specs.Macros.{BodyToken, Params, Variable, Definition, Table, after_first, define, definition_after, definition_in, name_at, or_fault, redefined, same_bool, same_body, same_definition, same_names, same_params, same_variables, undef, with_definition, with_new, with_other, without}
 use Rattle.inc_macro.specs.NameLists.{signature_of}

@@ -6,7 +6,7 @@ use Rattle.std.specs.Bool.{OnFalse}
 use Rattle.std.specs.Cmp.Lexicographic.{nat_list_eq_equiv}
 use Rattle.std.specs.Ordering.{on}
 use Rattle.indexmap.specs.IndexSet.{replace_key}
-use Rattle.inc_token.specs.declared.kinds.Language.{Language}
+use Rattle.inc_text.specs.declared.languages.Language.{Language}
 use Rattle.inc_macro.specs.Macros.{Definition, Table, without, with_new, with_other}
 use Rattle.inc_macro.specs.NameSlots.{HasSlots, is_taken, slot_of}
 use Rattle.inc_macro.specs.Tables.{Entries, Stacks, entries_of, found, table_of}

@@ -4,8 +4,8 @@ use Rattle.std.specs.Prelude.{◌||◌, ◌+◌, not}
 use Rattle.std.specs.List.{AllByRecursion}
 use Rattle.std.proofs.lemmas.Bool.{cond_both, or_parts}
 use Rattle.std.proofs.lemmas.Slice.Eq.{bytes_eq-Decides}
-use Rattle.inc_token.specs.declared.kinds.Language.{Language}
-use Rattle.inc_token.specs.declared.kinds.Language.TheVariants.{C17, Extended, Gnu}
+use Rattle.inc_text.specs.declared.languages.Language.{Language}
+use Rattle.inc_text.specs.declared.languages.Language.TheVariants.{C17, Extended, Gnu}
 use Rattle.inc_token.specs.TokenLines.{Tok}
 use Rattle.inc_macro.specs.Macros.{Definition, Table, after_first, asks_headers, define, definition_after, definition_in, definition_of, is_among, is_defined, is_identifier_kind, is_reserved, name_at, pop_macro, popped, predefined_names, push_macro, redefined, same_definition, undef, with_definition, with_words, define_word, word_tokens, without}
 use Rattle.inc_macro.specs.Results.{◌>>=◌}

@@ -1,8 +1,8 @@
 -- A definition does not rest on the places of its tokens.
 use Rattle.std.proofs.Common.{◌≡◌, ℕ, Bool, true, false, List, [], ◌∷◌, Option, Some, None, Result, Ok, Err, codes, map, not, ◌&&◌, option_map, refl, sym, ap, ◌∙◌}
 use Rattle.std.specs.Bool.{if◌then◌else◌}
-use Rattle.inc_token.specs.declared.kinds.Language.{Language}
-use Rattle.inc_token.specs.declared.kinds.Language.TheVariants.{C17, Extended, Gnu}
+use Rattle.inc_text.specs.declared.languages.Language.{Language}
+use Rattle.inc_text.specs.declared.languages.Language.TheVariants.{C17, Extended, Gnu}
 use Rattle.inc_token.specs.TokenLines.{Tok}
 use Rattle.inc_token.proofs.OwnLines.{unplaced}
 use Rattle.inc_macro.specs.Macros.{BodyToken, Definition, Params, Table, Variable, body_of, body_token, checked, define, definition_after, definition_in, definition_of, function_like, is_dots, is_identifier_kind, is_open, is_spelled, is_variable_name, name_at, named, named_last, object_like, parameter_list, parameters, unnamed, with_definition, with_name}

@@ -8,7 +8,7 @@ use Rattle.std.proofs.lemmas.Option.{slice_get-map}
 use Rattle.inc_text.specs.PhaseText.{Cell, added_new_line, bytes_of, cells_from, ended_by, is_too_long, phase_text}
 use Rattle.inc_text.specs.Origins.{is_special, mark_len}
 use Rattle.inc_text.proofs.LawLemmas.{text_stays}
-use Rattle.inc_token.specs.declared.kinds.Language.{Language}
+use Rattle.inc_text.specs.declared.languages.Language.{Language}
 use Rattle.inc_token.specs.declared.lines.LexFault.{LexFault}
 use Rattle.inc_token.specs.declared.pieces.Progress.TheVariants.{AtStart}
 use Rattle.inc_token.specs.TokenLines.{Tok, TokenLine, lines_from, token_lines}
@@ -152,14 +152,14 @@ lines-own language end at line (word ∷ words) =
     ∙ ap (before_lines (own language text)) (lines-own language end (a + 1) (l + 1) words)
 
 -- all lines
-words-own : (language : Language) (words : List (List ℕ)) → unplaced_lines (token_lines language (phase_text (word_lines words))) ≡ Ok (map (own_of_word language) words)
+words-own : (language : Language) (words : List (List ℕ)) → unplaced_lines (token_lines language (phase_text language (word_lines words))) ≡ Ok (map (own_of_word language) words)
 words-own language words =
     let source : List ℕ = word_lines words in
-    ap (λ c. unplaced_lines (lines_from language 0 AtStart false c)) (text_stays source (lines-special words) (no_mark source (lines-front words)))
+    ap (λ c. unplaced_lines (lines_from language 0 AtStart false c)) (text_stays language source (lines-special words) (no_mark source (lines-front words)))
     ∙ lines-own language (added_new_line source) 0 1 words
 
 -- the only line of a text
-line-own : (language : Language) (source : List ℕ) → list_all is_plain_byte source ≡ true → 0 < length source → unplaced_lines (token_lines language (phase_text source)) ≡ Ok (own language source ∷ [])
+line-own : (language : Language) (source : List ℕ) → list_all is_plain_byte source ≡ true → 0 < length source → unplaced_lines (token_lines language (phase_text language source)) ≡ Ok (own language source ∷ [])
 line-own language [] plain some = absurd (omega arith)
 line-own language (b ∷ bs) plain some =
     let source : List ℕ = b ∷ bs in
@@ -170,7 +170,7 @@ line-own language (b ∷ bs) plain some =
     let bytes : bytes_of cs ≡ source = cells-bytes 0 1 source in
     let stay : list_all stays_on_line (bytes_of cs) ≡ true = ap (list_all stays_on_line) bytes ∙ all_stay source plain in
     let first : Cell = record { byte = b; first = 0; last = 1; line = 1 } in
-    ap (λ c. unplaced_lines (lines_from language 0 AtStart false c)) (text_stays source special' (no_mark source (front_alone source plain)) ∙ ended-last end first (cells_from 1 (cond (b == 10) 2 1) bs) stay)
+    ap (λ c. unplaced_lines (lines_from language 0 AtStart false c)) (text_stays language source special' (no_mark source (front_alone source plain)) ∙ ended-last end first (cells_from 1 (cond (b == 10) 2 1) bs) stay)
     ∙ own_line language (length source) (length source) end.line [] 0 AtStart false cs stay (omega arith)
     ∙ ap (λ t. before_lines (own language t) (unplaced_lines (lines_from language 0 AtStart false []))) bytes
 
@@ -189,7 +189,7 @@ word-own : (language : Language) (word : List ℕ) → is_plain word ≡ true �
 word-own language word plain =
     let h = and_parts (nat_le (length word) 65536) (list_all is_plain_byte word) plain in
     let text : List ℕ = word_text word in
-    let r = first_own (token_lines language (phase_text text)) (own language text) (line-own language text (text-plain word h.1) (text-some word)) in
+    let r = first_own (token_lines language (phase_text language text)) (own language text) (line-own language text (text-plain word h.1) (text-some word)) in
     let short : is_too_long text ≡ false = le-ltb 16777216 (length text) (omega (arith, text-len word, leb-true (length word) 65536 h.0)) in
     let good : is_bad_word word ≡ false = rw (no_line_feed word h.1, short) refl in
     (r.0, cond-false (is_bad_word word) _ _ good ∙ r.1, r.2)
@@ -213,10 +213,10 @@ standing language word ts table spoken is some =
 ---- the lines of words that are known
 
 module _ (language : Language) (words : List (List ℕ)) where
-  pub no_fault : (fault : LexFault) → token_lines language (phase_text (word_lines words)) ≡ Err fault → ⊥
+  pub no_fault : (fault : LexFault) → token_lines language (phase_text language (word_lines words)) ≡ Err fault → ⊥
   no_fault fault is = let same : Err fault ≡ Ok (map (own_of_word language) words) = ap unplaced_lines (sym is) ∙ words-own language words in cc
 
-  module _ (lines : List TokenLine) (known : token_lines language (phase_text (word_lines words)) ≡ Ok lines) where
+  module _ (lines : List TokenLine) (known : token_lines language (phase_text language (word_lines words)) ≡ Ok lines) where
     known_lines : map unplaced_line lines ≡ map (own_of_word language) words
     known_lines = let same : Ok (map unplaced_line lines) ≡ Ok (map (own_of_word language) words) = ap unplaced_lines (sym known) ∙ words-own language words in cc
 

@@ -4,6 +4,7 @@ pub mod Roles
 pub mod NameLists
 pub mod Bodies
 pub mod Views
+pub mod Holders
 pub mod Tables
 pub mod NameSlots
 pub mod WordLines

@@ -6,8 +6,9 @@ use Rattle.std.specs.List.{list_any}
 use Rattle.inc_text.specs.PhaseText.{phase_text, is_too_long}
 use Rattle.inc_token.specs.declared.kinds.Kind.{Kind}
 use Rattle.inc_token.specs.declared.kinds.Kind.TheVariants.{Identifier}
-use Rattle.inc_token.specs.declared.kinds.Language.{Language}
-use Rattle.inc_token.specs.declared.kinds.Language.TheVariants.{Gnu}
+use Rattle.inc_text.specs.declared.languages.Language.{Language}
+pub use Rattle.inc_text.specs.Languages.{is_gnu}
+use Rattle.inc_text.specs.declared.languages.Language.TheVariants.{Gnu}
 use Rattle.inc_token.specs.TokenLines.{Tok, TokenLine, token_lines, is_hash}
 use Rattle.inc_token.specs.declared.lines.LexFault.{LexFault}
 use Rattle.inc_macro.specs.declared.faults.DefineFault.{DefineFault}
@@ -114,10 +115,6 @@ abbrev pub stands_first : List ℕ → List Tok → Bool
 stands_first text [] = false
 stands_first text (t ∷ ts) = is_spelled text t
 
-abbrev pub is_gnu : Language → Bool
-is_gnu Gnu = true
-is_gnu _ = false
-
 -- the variable arguments that `...` alone stands for
 abbrev pub unnamed : Language → Variable
 unnamed language = record { name = va_args; takes_comma = is_gnu language }
@@ -215,7 +212,7 @@ abbrev pub parameter_follows : List (List ℕ) → List (List ℕ) → Bool
 parameter_follows names [] = false
 parameter_follows names (text ∷ texts) = is_among text names
 
--- some # has no parameter after it
+-- some # has none of these names after it
 abbrev pub has_lone_hash : List (List ℕ) → List (List ℕ) → Bool
 has_lone_hash names [] = false
 has_lone_hash names (text ∷ texts) = (is_hash text && not (parameter_follows names texts)) || has_lone_hash names texts
@@ -233,10 +230,6 @@ begins_with_paste (text ∷ texts) = is_paste text
 -- __VA_ARGS__ is in the body of a macro without variable arguments; in GNU C it is an ordinary identifier there
 abbrev pub has_stray_va_args : Language → Option Params → List (List ℕ) → Bool
 has_stray_va_args language given texts = not (is_gnu language) && (list_any (bytes_eq va_args) texts && not (has_variable given))
-
--- __VA_OPT__, which GNU C gives a meaning in a macro with variable arguments
-abbrev pub va_opt : List ℕ
-va_opt = codes "__VA_OPT__"
 
 abbrev pub is_comma : List ℕ → Bool
 is_comma text = bytes_eq text (codes ",")
@@ -271,23 +264,67 @@ abbrev pub has_bad_comma : Params → List (List ℕ) → Bool
 has_bad_comma p [] = false
 has_bad_comma p (text ∷ texts) = begins_with_bad_comma p (text ∷ texts) || has_bad_comma p texts
 
--- the variable arguments take a `,` with them
+-- the variable arguments are those of GNU C: they take a `,` with them
 abbrev pub takes_comma : Params → Bool
 takes_comma p = elim p.variable [ None ↦ false | Some v ↦ v.takes_comma ]
 
--- the rule for variable arguments that a body breaks in GNU C
+---- `__VA_OPT__( )`, which GNU C has in a macro with variable arguments as later editions of C (ISO/IEC 9899:2024, 6.10.5.1)
+
+abbrev pub va_opt : List ℕ
+va_opt = codes "__VA_OPT__"
+
+-- the names that may stand after a `#`
+abbrev pub operand_names : Option Params → List (List ℕ)
+operand_names None = []
+operand_names (Some p) = if takes_comma p then va_opt ∷ parameter_names (Some p) else parameter_names (Some p)
+
+abbrev pub is_left : List ℕ → Bool
+is_left text = bytes_eq text (codes "(")
+
+abbrev pub is_right : List ℕ → Bool
+is_right text = bytes_eq text (codes ")")
+
+-- how many parentheses are open after a spelling
+abbrev pub depth_at : ℕ → List ℕ → ℕ
+depth_at deep text = if is_left text then deep + 1 else if is_right text then deep - 1 else deep
+
+-- the `)` is here to the last `(` before, where so many are open behind it
+abbrev pub is_match : ℕ → List ℕ → Bool
+is_match deep text = is_right text && (deep == 0)
+
+-- behind a `(` is its `)`, and before that no `__VA_OPT__`, and right before no ##; pastes: a ## is right before these
+abbrev pub is_closed : (deep : ℕ) → (pastes : Bool) → List (List ℕ) → Bool
+is_closed deep pastes [] = false
+is_closed deep pastes (text ∷ texts) =
+    if is_match deep text then not pastes else
+    if bytes_eq va_opt text then false else is_closed (depth_at deep text) (is_paste text) texts
+
+abbrev pub begins_with_left : List (List ℕ) → Bool
+begins_with_left [] = false
+begins_with_left (text ∷ texts) = is_left text
+
+-- what is after a `__VA_OPT__`: parentheses, with no ## first or last in them, and no other `__VA_OPT__`
+abbrev pub follows_optional : List (List ℕ) → Bool
+follows_optional texts = begins_with_left texts && (not (begins_with_paste (drop 1 texts)) && is_closed 0 false (drop 1 texts))
+
+-- some `__VA_OPT__` has something else after it
+abbrev pub has_bad_optional : List (List ℕ) → Bool
+has_bad_optional [] = false
+has_bad_optional (text ∷ texts) = (bytes_eq va_opt text && not (follows_optional texts)) || has_bad_optional texts
+
+-- the rule for variable arguments that a macro breaks in GNU C
 abbrev pub variable_fault : Option Params → List (List ℕ) → Option DefineFault
 variable_fault None texts = None
 variable_fault (Some p) texts =
     if not (takes_comma p) then None else
-    if list_any (bytes_eq va_opt) texts then Some BadOptional else
+    if is_among va_opt (parameter_names (Some p)) || has_bad_optional texts then Some BadOptional else
     if has_bad_comma p texts then Some BadComma else None
 
 -- the rule that a body with these spellings breaks (6.10.3, 6.10.3.2, 6.10.3.3)
 abbrev pub body_fault : Language → Option Params → List (List ℕ) → Option DefineFault
 body_fault language given texts =
     if has_stray_va_args language given texts then Some StrayVaArgs else
-    if is_some given && has_lone_hash (parameter_names given) texts then Some HashWithoutParameter else
+    if is_some given && has_lone_hash (operand_names given) texts then Some HashWithoutParameter else
     if begins_with_paste texts || ends_in_paste texts then Some PasteAtEnd else variable_fault given texts
 
 abbrev pub or_fault : Definition → Option DefineFault → Result Definition DefineFault
@@ -444,7 +481,7 @@ is_bad_word word = list_any (λ b. b == line_feed) word || is_too_long (word_tex
 
 -- the tokens of a word
 abbrev pub word_tokens : Language → List ℕ → Result (List Tok) DefineFault
-word_tokens language word = if is_bad_word word then Err BadWord else tokens_or_bad (token_lines language (phase_text (word_text word)))
+word_tokens language word = if is_bad_word word then Err BadWord else tokens_or_bad (token_lines language (phase_text language (word_text word)))
 
 -- the table after a word of the command line
 abbrev pub define_word : List ℕ → Table → Result Table DefineFault

@@ -2,7 +2,7 @@
 -- is read is good.
 use Rattle.std.specs.Prelude.{ℕ, ◌&&◌, not, Bool, List, [], ◌∷◌, ◌++◌, Option, Some, None, Result, Ok, Err, if◌then◌else◌, drop, length, nat_lt, codes, bytes_eq}
 use Rattle.inc_token.specs.TokenLines.{Tok}
-use Rattle.inc_token.specs.declared.kinds.Language.{Language}
+use Rattle.inc_text.specs.declared.languages.Language.{Language}
 use Rattle.inc_macro.specs.Macros.{Params, Variable, is_among, is_dots, is_spelled, is_identifier_kind, is_open, named, stands_first, unnamed, va_args}
 use Rattle.inc_macro.specs.declared.faults.DefineFault.{DefineFault}
 use Rattle.inc_macro.specs.declared.faults.DefineFault.TheVariants.{BadParameters, TooManyParameters}

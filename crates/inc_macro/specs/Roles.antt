@@ -1,13 +1,13 @@
 -- What each token of a body is for the expansion of its macro (ISO/IEC 9899:2018, 6.10.3.1 to 6.10.3.3). Choice of this
 -- profile: the token right after a ## that pastes is its operand whatever it is, so that of ## ## the second is one. In GNU
 -- C a `,` before a ## before the variable arguments goes with them, and the ## pastes nothing.
-use Rattle.std.specs.Prelude.{ℕ, ◌||◌, Bool, true, false, List, [], ◌∷◌, Option, Some, None, if◌then◌else◌, length, bytes_eq, position}
+use Rattle.std.specs.Prelude.{ℕ, ◌&&◌, ◌||◌, Bool, true, false, List, [], ◌∷◌, Option, Some, None, if◌then◌else◌, length, bytes_eq, position}
 use Rattle.inc_token.specs.TokenLines.{is_hash}
 use Rattle.inc_macro.specs.declared.roles.Before.{Before}
 use Rattle.inc_macro.specs.declared.roles.Before.TheVariants.{Neither, AfterHash, AfterPaste, AfterPastedPaste, AfterComma}
 use Rattle.inc_macro.specs.declared.roles.Role.{Role}
-use Rattle.inc_macro.specs.declared.roles.Role.TheVariants.{Itself, Paste, Hash, AsWritten, Expanded, Comma, Nothing}
-use Rattle.inc_macro.specs.Macros.{Params, Definition, parameter_names, is_paste, begins_with_paste, begins_with_taken, spellings}
+use Rattle.inc_macro.specs.declared.roles.Role.TheVariants.{Itself, Paste, Hash, AsWritten, Expanded, Comma, Nothing, Optional}
+use Rattle.inc_macro.specs.Macros.{Params, Definition, parameter_names, is_paste, begins_with_paste, begins_with_taken, spellings, takes_comma, va_opt}
 
 -- the place of the parameter with this name, counted from 0: the variable arguments are the last
 abbrev pub parameter_at : Option Params → List ℕ → Option ℕ
@@ -34,12 +34,22 @@ abbrev pub word_role : Bool → Option ℕ → Role
 word_role is_written None = Itself
 word_role is_written (Some n) = if is_written then AsWritten n else Expanded n
 
+-- the place of the variable arguments, where the token is the `__VA_OPT__` of GNU C
+abbrev pub optional_at : Option Params → List ℕ → Option ℕ
+optional_at None spelling = None
+optional_at (Some p) spelling = if takes_comma p && bytes_eq va_opt spelling then Some (length p.names) else None
+
+-- a token that is no operator, by what of the arguments it stands for
+abbrev pub name_role : Bool → Option ℕ → (optional : Option ℕ) → Role
+name_role is_written parameter None = word_role is_written parameter
+name_role is_written parameter (Some n) = Optional n
+
 -- a token by what is before it; `ends`: a `##` comes next
 abbrev pub role_at : Option Params → Before → (ends : Bool) → List ℕ → Role
-role_at given AfterHash ends spelling = word_role true (parameter_at given spelling)
+role_at given AfterHash ends spelling = name_role true (parameter_at given spelling) (optional_at given spelling)
 role_at given before ends spelling =
     if is_paste spelling then paste_role before else
-    if is_hash_operator given spelling then Hash else word_role (is_operand before || ends) (parameter_at given spelling)
+    if is_hash_operator given spelling then Hash else name_role (is_operand before || ends) (parameter_at given spelling) (optional_at given spelling)
 
 -- a token that stands for itself, or a parameter whose argument is expanded
 abbrev pub is_plain_role : Role → Bool

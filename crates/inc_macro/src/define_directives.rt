@@ -1,8 +1,8 @@
 //! Definitions as they are read from the tokens of a directive.
-ghost use Rattle.std.specs.Prelude.{◌&&◌, ◌||◌, ◌+◌, ◌<◌, not, nat_lt, is_some, ◌≡◌, ◌≢◌, ◌≤◌, true, Ok, Err, Some, None, OnOk, map, drop, length, IfOk, IfErr, bytes_eq};
+ghost use Rattle.std.specs.Prelude.{◌&&◌, ◌||◌, ◌+◌, ◌<◌, ◌^◌, not, nat_lt, is_some, ◌≡◌, ◌≢◌, ◌≤◌, true, false, [], ◌∷◌, Ok, Err, Some, None, OnOk, map, drop, length, IfOk, IfErr, bytes_eq};
 ghost use Rattle.std.specs.List.{list_any};
 ghost use Rattle.inc_token.specs.Views.{seen};
-ghost use Rattle.inc_macro.specs.Macros.{begins_with_comma, begins_with_chain, begins_with_paste, begins_with_taken, begins_with_taker, body_fault, body_of, definition_after, definition_in, ends_in_paste, has_bad_comma, has_lone_hash, has_stray_va_args, has_variable, name_at, parameter_follows, parameter_names, takes_comma, va_args, va_opt, variable_fault};
+ghost use Rattle.inc_macro.specs.Macros.{begins_with_comma, begins_with_chain, begins_with_left, begins_with_paste, begins_with_taken, begins_with_taker, body_fault, body_of, definition_after, definition_in, depth_at, ends_in_paste, follows_optional, has_bad_comma, has_bad_optional, has_lone_hash, has_stray_va_args, has_variable, is_among, is_closed, is_left, is_match, name_at, operand_names, parameter_follows, parameter_names, takes_comma, va_args, va_opt, variable_fault};
 ghost use Rattle.inc_macro.specs.Roles.{comma_at, roles_from};
 ghost use Rattle.inc_macro.specs.Views.{spellings_in};
 ghost use Rattle.inc_token.specs.declared.lines.Token.{Token};
@@ -14,11 +14,10 @@ use crate::faults::DefineFault;
 use crate::parameters::{Parameters, signature};
 use crate::reserved_names::{VA_ARGS, is_reserved};
 use crate::roles::{
-    Before, before_after, before_next, comma_role, is_comma, is_hash, is_paste, role_at,
+    Before, before_after, before_next, comma_role, is_comma, is_hash, is_paste, is_va_opt, role_at,
 };
-use crate::variables::is_gnu;
-use inc_text::SeededState;
-use inc_token::{Kind, Language, Token};
+use inc_text::{Language, SeededState};
+use inc_token::{Kind, Token};
 use std::alloc::{AllocError, Global};
 
 /// The name that the tokens after `define` or `undef` begin with.
@@ -47,20 +46,38 @@ fn parameter_follows(params: &Parameters, tokens: &[Token<'_>], at: usize) -> bo
     at < tokens.len() && params.place_of(tokens[at].spelling).is_some()
 }
 
-/// Whether a `#` is at a place without a parameter after it.
+/// Whether the token at a place is one that may stand after a `#`: a parameter, or the `__VA_OPT__` of GNU C.
+fn operand_follows(params: &Parameters, tokens: &[Token<'_>], at: usize) -> bool
+    ensures { result ≡ parameter_follows (operand_names (Some params.now))
+        (drop at (spellings_in tokens.now)) }
+{
+    if params.takes_comma() {
+        return va_opt_follows(tokens, at) || parameter_follows(params, tokens, at);
+    }
+    parameter_follows(params, tokens, at)
+}
+
+/// Whether `__VA_OPT__` is at a place.
+fn va_opt_follows(tokens: &[Token<'_>], at: usize) -> bool
+    ensures { result ≡ parameter_follows (va_opt ∷ []) (drop at (spellings_in tokens.now)) }
+{
+    at < tokens.len() && is_va_opt(tokens[at].spelling)
+}
+
+/// Whether a `#` is at a place without such a token after it.
 fn is_lone_hash(params: &Parameters, tokens: &[Token<'_>], at: usize) -> bool
     requires { at < length tokens.now }
-    ensures { let names = parameter_names (Some params.now) in
+    ensures { let names = operand_names (Some params.now) in
         let texts = spellings_in tokens.now in
         has_lone_hash names (drop at texts) ≡ (result || has_lone_hash names (drop (at + 1) texts)) }
 {
-    is_hash(tokens[at].spelling) && !parameter_follows(params, tokens, at + 1)
+    is_hash(tokens[at].spelling) && !operand_follows(params, tokens, at + 1)
 }
 
 /// Whether some `#` has no parameter after it (ISO/IEC 9899:2018, 6.10.3.2 paragraph 1), which counts in
 /// function-like macros.
 fn has_lone_hash(params: &Option<Parameters>, tokens: &[Token<'_>]) -> bool
-    ensures { result ≡ (is_some params.now && has_lone_hash (parameter_names params.now)
+    ensures { result ≡ (is_some params.now && has_lone_hash (operand_names params.now)
         (spellings_in tokens.now)) }
 {
     match params {
@@ -97,26 +114,10 @@ fn has_variable(params: &Option<Parameters>) -> bool
 fn has_stray_va_args(language: Language, params: &Option<Parameters>, tokens: &[Token<'_>]) -> bool
     ensures { result ≡ has_stray_va_args language params.now (spellings_in tokens.now) }
 {
-    if is_gnu(language) {
+    if language.is_gnu() {
         return false;
     }
     any_va_args(tokens) && !has_variable(params)
-}
-
-/// Whether a token is `__VA_OPT__`.
-fn any_va_opt(tokens: &[Token<'_>]) -> bool
-    ensures { result ≡ list_any (λ (t : Token). bytes_eq va_opt t.spelling.now) tokens.now }
-{
-    tokens
-        .iter()
-        .any(|t| b"__VA_OPT__".as_slice() == t.spelling)
-}
-
-/// Whether `__VA_OPT__` is in a body.
-fn has_va_opt(tokens: &[Token<'_>]) -> bool
-    ensures { result ≡ list_any (bytes_eq va_opt) (spellings_in tokens.now) }
-{
-    any_va_opt(tokens)
 }
 
 /// Whether a `##` is at a place.
@@ -189,6 +190,98 @@ fn has_bad_comma(params: &Parameters, tokens: &[Token<'_>]) -> bool
     false
 }
 
+/// Whether the `)` of an optional part is at a place, where so many parentheses are open.
+fn is_match(deep: usize, spelling: &[u8]) -> bool
+    ensures { result ≡ is_match deep spelling.now }
+{
+    matches!(spelling, b")") && deep == 0
+}
+
+/// How many parentheses are open after a token.
+fn depth_at(deep: usize, spelling: &[u8]) -> usize
+    requires { deep < 2 ^ 60 }
+    ensures depth { result ≡ depth_at deep spelling.now }
+    ensures most { result ≤ deep + 1 }
+{
+    match spelling {
+        b"(" => deep + 1,
+        b")" => deep.saturating_sub(1),
+        _ => deep,
+    }
+}
+
+/// Whether an optional part that begins at a place has its `)`, and before it no other and no `##` as the last token.
+fn is_closed(tokens: &[Token<'_>], from: usize) -> bool
+    ensures { result ≡ is_closed 0 false (drop from (spellings_in tokens.now)) }
+{
+    let mut deep = 0usize;
+    let mut pastes = false;
+    for i in from..tokens.len() {
+        let spelling = tokens[i].spelling;
+        if is_match(deep, spelling) {
+            return !pastes;
+        }
+        if is_va_opt(spelling) {
+            return false;
+        }
+        deep = depth_at(deep, spelling);
+        pastes = is_paste(spelling);
+    }
+    false
+}
+
+/// Whether a token is spelled as a `(`.
+fn is_left(spelling: &[u8]) -> bool
+    ensures { result ≡ is_left spelling.now }
+{
+    matches!(spelling, b"(")
+}
+
+/// Whether a `(` is at a place.
+fn left_follows(tokens: &[Token<'_>], at: usize) -> bool
+    ensures { result ≡ begins_with_left (drop at (spellings_in tokens.now)) }
+{
+    at < tokens.len() && is_left(tokens[at].spelling)
+}
+
+/// Whether what may be after `__VA_OPT__` is at a place.
+fn optional_follows(tokens: &[Token<'_>], at: usize) -> bool
+    ensures { result ≡ follows_optional (drop at (spellings_in tokens.now)) }
+{
+    if !left_follows(tokens, at) {
+        return false;
+    }
+    !paste_follows(tokens, at + 1) && is_closed(tokens, at + 1)
+}
+
+/// Whether a `__VA_OPT__` is at a place that has something else after it.
+fn bad_optional_follows(tokens: &[Token<'_>], at: usize) -> bool
+    requires { at < length tokens.now }
+    ensures { let texts = spellings_in tokens.now in
+        has_bad_optional (drop at texts) ≡ (result || has_bad_optional (drop (at + 1) texts)) }
+{
+    is_va_opt(tokens[at].spelling) && !optional_follows(tokens, at + 1)
+}
+
+/// Whether such a one is at some place. Where none is, each is walked over once.
+fn has_bad_optional(tokens: &[Token<'_>]) -> bool
+    ensures { result ≡ has_bad_optional (spellings_in tokens.now) }
+{
+    for i in 0..tokens.len() {
+        if bad_optional_follows(tokens, i) {
+            return true;
+        }
+    }
+    false
+}
+
+/// Whether a parameter is called `__VA_OPT__`.
+fn names_optional(params: &Parameters) -> bool
+    ensures { result ≡ is_among va_opt (parameter_names (Some params.now)) }
+{
+    params.place_of(b"__VA_OPT__").is_some()
+}
+
 /// The rule for variable arguments that these tokens break in GNU C.
 fn variable_fault(params: &Option<Parameters>, tokens: &[Token<'_>]) -> Option<DefineFault>
     ensures { result ≡ variable_fault params.now (spellings_in tokens.now) }
@@ -204,7 +297,7 @@ fn taker_fault(params: &Parameters, tokens: &[Token<'_>]) -> Option<DefineFault>
     requires { takes_comma params.now ≡ true }
     ensures { result ≡ variable_fault (Some params.now) (spellings_in tokens.now) }
 {
-    if has_va_opt(tokens) {
+    if names_optional(params) || has_bad_optional(tokens) {
         Some(DefineFault::BadOptional)
     } else if has_bad_comma(params, tokens) {
         Some(DefineFault::BadComma)

@@ -6,10 +6,10 @@ ghost use Rattle.inc_macro.specs.WordLines.{is_plain, is_plain_byte, line_text, 
 ghost use Rattle.inc_text.specs.Ascii.{equals, line_feed};
 ghost use Rattle.inc_text.specs.PhaseText.{phase_text};
 ghost use Rattle.inc_token.specs.TokenLines.{token_lines};
-ghost use Rattle.inc_token.specs.declared.kinds.Language.{Language};
+ghost use Rattle.inc_text.specs.declared.languages.Language.{Language};
 
 use crate::faults::DefineFault;
-use inc_text::{Text, TextFault, splice_owned};
+use inc_text::{Language, Text, TextFault, splice_owned};
 use memchr::memchr;
 use std::alloc::{AllocError, Global};
 
@@ -54,17 +54,15 @@ fn word_text(alloc: Global, word: &[u8]) -> Result<Vec<u8>, AllocError>
 }
 
 /// The text of a word after phases 1 and 2.
-pub fn spliced_word(alloc: Global, word: &[u8]) -> Result<Text, DefineFault>
-    ensures text { (language : Language) →
-        IfOk result (λ text. word_tokens language word.now ≡ tokens_or_bad (token_lines language text)) }
-    ensures fault { (language : Language) →
-        IfErr result (λ fault. fault ≢ DefineFault.NoMemory → word_tokens language word.now ≡ Err fault) }
+pub fn spliced_word(alloc: Global, word: &[u8], language: Language) -> Result<Text, DefineFault>
+    ensures text { IfOk result (λ text. word_tokens language word.now ≡ tokens_or_bad (token_lines language text)) }
+    ensures fault { IfErr result (λ fault. fault ≢ DefineFault.NoMemory → word_tokens language word.now ≡ Err fault) }
 {
     if has_line_feed(word) {
         return Err(DefineFault::BadWord);
     }
     let text = word_text(alloc, word)?;
-    match splice_owned(alloc, text) {
+    match splice_owned(alloc, text, language) {
         Ok(text) => Ok(text),
         Err(TextFault::TooLong) => Err(DefineFault::BadWord),
         Err(TextFault::NoMemory) => Err(DefineFault::NoMemory),
@@ -116,10 +114,10 @@ fn word_lines(alloc: Global, words: &[&[u8]]) -> Result<Vec<u8>, AllocError>
 }
 
 /// The text of the lines of words after phases 1 and 2.
-pub fn spliced_lines(alloc: Global, words: &[&[u8]]) -> Result<Text, TextFault>
-    ensures { IfOk result (λ text. text ≡ phase_text (word_lines (map (λ w. w.now) words.now))) }
+pub fn spliced_lines(alloc: Global, words: &[&[u8]], language: Language) -> Result<Text, TextFault>
+    ensures { IfOk result (λ text. text ≡ phase_text language (word_lines (map (λ w. w.now) words.now))) }
 {
     let lines = word_lines(alloc, words)?;
-    let text = splice_owned(alloc, lines)?;
+    let text = splice_owned(alloc, lines, language)?;
     Ok(text)
 }

@@ -35,8 +35,9 @@ pub enum DefineFault {
     /// A word of the command line holds LF, is too long, or has no tokens.
     #[error("bad macro definition")]
     BadWord,
-    /// `__VA_OPT__` is in the body of a macro with variable arguments in GNU C.
-    #[error("__VA_OPT__ is not supported")]
+    /// In a macro with variable arguments in GNU C, `__VA_OPT__` has no parentheses after it, another is in them, `##` is first or last
+    /// in them, or a parameter has that name.
+    #[error("bad __VA_OPT__")]
     BadOptional,
     /// The body of a macro with variable arguments in GNU C has a `,`, a `##`, a parameter and another `##`, or a `##`
     /// and a `,` that goes with the variable arguments.

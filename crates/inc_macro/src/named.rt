@@ -13,43 +13,80 @@ use std::hash::{Hash, Hasher};
 use std::marker::Model;
 use std::rc::Rc;
 
+/// A definition in one place, or in several.
+#[derive(Drop)]
+enum Held {
+    /// The only one that has it.
+    Own(Definition),
+    /// One of those that have it.
+    Shared(Rc<Definition>),
+}
+
 /// A definition that a table tells apart from others by its name alone, so that the table keeps no copy of the name. It is hashed by
-/// one write of all bytes of its name, as a [`KeyRef`] is. What is put aside shares it, however large its body is.
+/// one write of all bytes of its name, as a [`KeyRef`] is. What is put aside shares it, however large its body is; a definition that
+/// never is needs no allocation of its own.
 #[derive(Drop)]
 pub(crate) struct Named {
-    definition: Rc<Definition>,
+    held: Held,
 }
 
 impl Model for Named {
     ghost use Rattle.inc_macro.specs.Macros.{Definition as Defined};
+    ghost use Rattle.inc_macro.specs.Holders.{held_definition};
 
     ghost Value = { Defined };
 
-    ghost view = { λ n. n.definition.value };
+    ghost view = { λ n. held_definition n.held };
 }
 
 impl Named {
     /// This definition.
-    pub(crate) fn new(alloc: Global, definition: Definition) -> Result<Named, AllocError>
-        ensures { IfOk result (λ named. named ≡ definition) }
+    pub(crate) fn new(definition: Definition) -> Named
+        ensures { result ≡ definition }
     {
-        let definition = Rc::new(alloc, definition)?;
-        Ok(Named { definition })
+        Named {
+            held: Held::Own(definition),
+        }
     }
 
-    /// The same definition, of which there is no copy.
-    pub(crate) fn share(&self) -> Result<Named, AllocError>
-        ensures { IfOk result (λ named. named ≡ self.now) }
+    /// The same definition twice, of which no copy is made.
+    pub(crate) fn shared(self, alloc: Global) -> Result<(Named, Named), AllocError>
+        ensures { IfOk result (λ both. (both.0 ≡ self) × (both.1 ≡ self)) }
     {
-        let definition = self.definition.clone()?;
-        Ok(Named { definition })
+        let one = self.into_shared(alloc)?;
+        let other = one.clone()?;
+        Ok((
+            Named {
+                held: Held::Shared(one),
+            },
+            Named {
+                held: Held::Shared(other),
+            },
+        ))
+    }
+
+    /// This definition as one that can be shared.
+    fn into_shared(self, alloc: Global) -> Result<Rc<Definition>, AllocError>
+        ensures { IfOk result (λ one. one.value ≡ self) }
+    {
+        match self.held {
+            Held::Own(definition) => {
+                let one = Rc::new(alloc, definition)?;
+                Ok(one)
+            }
+            Held::Shared(one) => Ok(one),
+        }
     }
 
     /// The definition.
+    #[inline(always)]
     pub(crate) fn definition(&self) -> &Definition
         ensures { result.now ≡ self.now }
     {
-        self.definition.as_ref()
+        match &self.held {
+            Held::Own(definition) => definition,
+            Held::Shared(definition) => definition.as_ref(),
+        }
     }
 }
 

@@ -10,8 +10,8 @@ use crate::faults::DefineFault;
 use crate::name_sets::DistinctNames;
 use crate::reserved_names::VA_ARGS;
 use crate::variables::{Variable, is_called, same_variables};
-use inc_text::SeededState;
-use inc_token::{Kind, Language, Token};
+use inc_text::{Language, SeededState};
+use inc_token::{Kind, Token};
 use std::alloc::Global;
 use std::marker::Model;
 

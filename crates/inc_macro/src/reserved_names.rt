@@ -2,7 +2,7 @@
 ghost use Rattle.std.specs.Prelude.{◌≡◌, ◌==◌, ◌||◌};
 ghost use Rattle.inc_macro.specs.Macros.{asked_names, asks_headers, gnu_names, header_questions, is_among, is_reserved, place_names, predefined_names};
 
-use inc_token::Language;
+use inc_text::Language;
 
 /// Whether a predefined macro has a name of this length: that test is all that most names cost.
 #[inline(always)]

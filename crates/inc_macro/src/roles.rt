@@ -1,8 +1,8 @@
 //! What the tokens of a body are for the expansion of its macro.
-ghost use Rattle.std.specs.Prelude.{◌≡◌, option_map};
+ghost use Rattle.std.specs.Prelude.{◌≡◌, ◌&&◌, bytes_eq, option_map};
 ghost use Rattle.inc_token.specs.TokenLines.{is_hash};
-ghost use Rattle.inc_macro.specs.Macros.{is_comma, is_paste};
-ghost use Rattle.inc_macro.specs.Roles.{is_plain_role, is_hash_operator, word_role, role_at, before_after, before_next, comma_role, parameter_at};
+ghost use Rattle.inc_macro.specs.Macros.{is_comma, is_paste, takes_comma, va_opt};
+ghost use Rattle.inc_macro.specs.Roles.{is_plain_role, is_hash_operator, name_role, optional_at, word_role, role_at, before_after, before_next, comma_role, parameter_at};
 
 use crate::parameters::Parameters;
 
@@ -25,6 +25,8 @@ pub enum Role {
     Comma(u8),
     /// The `##` after such a `,`, which pastes nothing.
     Nothing,
+    /// The `__VA_OPT__` of GNU C: whether what is in the parentheses after it stands depends on these variable arguments.
+    Optional(u8),
 }
 
 /// Whether a token stands for itself, or is a parameter whose argument is expanded.
@@ -88,12 +90,26 @@ fn word_role(is_written: bool, parameter: Option<u8>) -> Role
     }
 }
 
+/// The same, where `optional` is the place of the variable arguments if the token is `__VA_OPT__`.
+fn name_role(is_written: bool, parameter: Option<u8>, optional: Option<u8>) -> Role
+    ensures { result ≡ name_role is_written parameter optional }
+{
+    match optional {
+        None => word_role(is_written, parameter),
+        Some(n) => Role::Optional(n),
+    }
+}
+
 /// The role of a token. `ends`: a `##` comes next.
 pub fn role_at(params: &Option<Parameters>, before: Before, ends: bool, spelling: &[u8]) -> Role
     ensures { result ≡ role_at params.now before ends spelling.now }
 {
     if before == Before::AfterHash {
-        return word_role(true, parameter_at(params, spelling));
+        return name_role(
+            true,
+            parameter_at(params, spelling),
+            optional_at(params, spelling),
+        );
     }
     if is_paste(spelling) {
         return match before {
@@ -105,9 +121,10 @@ pub fn role_at(params: &Option<Parameters>, before: Before, ends: bool, spelling
     if is_hash_operator(params, spelling) {
         return Role::Hash;
     }
-    word_role(
+    name_role(
         before != Before::Neither || ends,
         parameter_at(params, spelling),
+        optional_at(params, spelling),
     )
 }
 
@@ -118,6 +135,30 @@ fn parameter_at(params: &Option<Parameters>, name: &[u8]) -> Option<u8>
     match params {
         Some(params) => params.place_of(name),
         None => None,
+    }
+}
+
+/// Whether a token is spelled `__VA_OPT__`.
+pub fn is_va_opt(spelling: &[u8]) -> bool
+    ensures { result ≡ bytes_eq va_opt spelling.now }
+{
+    b"__VA_OPT__".as_slice() == spelling
+}
+
+/// Whether it is, and has a meaning in a macro with these parameters.
+fn is_optional(params: &Parameters, spelling: &[u8]) -> bool
+    ensures { result ≡ (takes_comma params.now && bytes_eq va_opt spelling.now) }
+{
+    params.takes_comma() && is_va_opt(spelling)
+}
+
+/// The place of the variable arguments, where this is the `__VA_OPT__` of GNU C.
+fn optional_at(params: &Option<Parameters>, spelling: &[u8]) -> Option<u8>
+    ensures { result ≡ optional_at params.now spelling.now }
+{
+    match params {
+        Some(params) if is_optional(params, spelling) => Some(params.count() as u8),
+        _ => None,
     }
 }
 

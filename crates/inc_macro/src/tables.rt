@@ -1,5 +1,5 @@
 //! The macro table.
-ghost use Rattle.std.specs.Prelude.{◌≡◌, ◌≢◌, true, false, None, Ok, Err, map, length, is_some, IfOk, IfErr, OnOk, OnErr, option_map};
+ghost use Rattle.std.specs.Prelude.{◌≡◌, ◌≢◌, true, false, None, Ok, Err, map, length, is_some, IfNone, IfOk, IfErr, IfSome, OnOk, OnErr, option_map};
 ghost use Rattle.inc_text.specs.PhaseText.{phase_text};
 ghost use Rattle.inc_token.specs.TokenLines.{token_lines};
 ghost use Rattle.inc_token.specs.Views.{seen};
@@ -15,8 +15,8 @@ use crate::named::Named;
 use crate::reserved_names::{asks_headers, is_predefined};
 use crate::slots::{is_taken, place_in, slot_of, take_slot};
 use crate::stacks::Stacks;
-use inc_text::{KeyRef, SeededState, Text, TextFault};
-use inc_token::{Language, LexFault, Lines, Token, lex};
+use inc_text::{KeyRef, Language, SeededState, Text, TextFault};
+use inc_token::{LexFault, Lines, Token, lex};
 use indexmap::IndexSet;
 use std::alloc::{AllocError, Global};
 use std::marker::Model;
@@ -96,12 +96,13 @@ impl Macros {
             }
             return self.redefine(definition);
         }
-        let named = Named::new(self.alloc, definition)?;
+        let named = Named::new(definition);
         self.add(named)?;
         Ok(())
     }
 
-    /// Adds the definition of a name that has none.
+    /// Adds the definition of a name that has none. In line, since a call would move the definition once more.
+    #[inline(always)]
     fn add(&mut self, definition: Named) -> Result<(), AllocError>
         requires { (table_of self.old).find definition.name ≡ None }
         ensures done { OnOk result (with_new definition (table_of self.old) ≡ table_of self.new) }
@@ -127,7 +128,7 @@ impl Macros {
         match self.language {
             Language::C17 | Language::Extended => Err(DefineFault::Redefinition),
             Language::Gnu => {
-                let named = Named::new(self.alloc, definition)?;
+                let named = Named::new(definition);
                 self.exchange(named)?;
                 Ok(())
             }
@@ -155,7 +156,7 @@ impl Macros {
         ensures same { OnErr result (self.new ≡ self.old) }
         ensures language { self.new.language ≡ self.old.language }
     {
-        let text = spliced_word(self.alloc, word)?;
+        let text = spliced_word(self.alloc, word, self.language())?;
         self.define_line(&text)
     }
 
@@ -209,7 +210,7 @@ impl Macros {
             IfErr result (λ why. why.fault ≢ DefineFault.NoMemory →
             with_words 0 all (table_of self.old) ≡ Err (why.index, why.fault)) }
     {
-        match spliced_lines(self.alloc, words) {
+        match spliced_lines(self.alloc, words, self.language()) {
             Ok(text) => self.define_lines(words, &text),
             Err(TextFault::TooLong) => self.define_each(words),
             Err(TextFault::NoMemory) => Err(WordFault {
@@ -238,7 +239,7 @@ impl Macros {
 
     /// The same by the text of their lines.
     fn define_lines(&mut self, words: &[&[u8]], text: &Text) -> Result<(), WordFault>
-        requires { text.now ≡ phase_text (word_lines (map (λ w. w.now) words.now)) }
+        requires { text.now ≡ phase_text self.old.language (word_lines (map (λ w. w.now) words.now)) }
         ensures done { let all = map (λ w. w.now) words.now in
             OnOk result (with_words 0 all (table_of self.old) ≡ Ok (table_of self.new)) }
         ensures fault { let all = map (λ w. w.now) words.now in
@@ -258,7 +259,7 @@ impl Macros {
 
     /// The same by the tokens of their lines.
     fn define_lexed(&mut self, words: &[&[u8]], lines: &Lines<'_>) -> Result<(), WordFault>
-        requires { token_lines self.old.language (phase_text (word_lines (map (λ w. w.now) words.now)))
+        requires { token_lines self.old.language (phase_text self.old.language (word_lines (map (λ w. w.now) words.now)))
             ≡ Ok lines.now }
         ensures done { let all = map (λ w. w.now) words.now in
             OnOk result (with_words 0 all (table_of self.old) ≡ Ok (table_of self.new)) }
@@ -308,23 +309,36 @@ impl Macros {
     pub fn push(&mut self, name: &[u8]) -> Result<(), AllocError>
         ensures { OnOk result (push_macro name.now (table_of self.old) ≡ table_of self.new) }
     {
-        let definition = self.shared(name)?;
+        let definition = self.share(name)?;
         self.stacks.push(self.alloc, name, definition)?;
         Ok(())
     }
 
-    /// The definition of a name, to be kept in another place too.
-    fn shared(&self, name: &[u8]) -> Result<Option<Named>, AllocError>
-        ensures definition { IfOk result (λ definition. definition ≡ (table_of self.now).find name.now) }
+    /// The definition of a name, to be kept in another place too: the table shares it from then on.
+    fn share(&mut self, name: &[u8]) -> Result<Option<Named>, AllocError>
+        ensures definition { IfOk result (λ definition. definition ≡ (table_of self.old).find name.now) }
         ensures named { IfOk result (IsNamed name.now) }
+        ensures same { OnOk result (table_of self.new ≡ table_of self.old) }
     {
-        match self.table.get(KeyRef { bytes: name }) {
+        match self.take(name) {
             Some(named) => {
-                let definition = named.share()?;
-                Ok(Some(definition))
+                let (kept, other) = named.shared(self.alloc)?;
+                self.add(kept)?;
+                Ok(Some(other))
             }
             None => Ok(None),
         }
+    }
+
+    /// Takes the definition of a name out, if it has one.
+    fn take(&mut self, name: &[u8]) -> Option<Named>
+        ensures definition { result ≡ (table_of self.old).find name.now }
+        ensures named { IsNamed name.now result }
+        ensures rest { IfSome result (λ definition. with_new definition (table_of self.new) ≡ table_of self.old) }
+        ensures absent { IfSome result (λ definition. (table_of self.new).find definition.name ≡ None) }
+        ensures same { IfNone result (self.new ≡ self.old) }
+    {
+        self.table.swap_take(KeyRef { bytes: name })
     }
 
     /// Has a name have again what was put aside of it last: `#pragma pop_macro` of GNU C. Where nothing was, it changes nothing.

@@ -3,8 +3,7 @@ ghost use Rattle.std.specs.Prelude.{◌≡◌, ◌∷◌, [], IfOk, bytes_eq};
 ghost use Rattle.inc_macro.specs.Macros.{is_among, is_gnu, named, same_variables, unnamed, with_variable};
 
 use crate::reserved_names::VA_ARGS;
-use inc_text::Key;
-use inc_token::Language;
+use inc_text::{Key, Language};
 use std::alloc::{AllocError, Global};
 use std::marker::Model;
 
@@ -32,7 +31,7 @@ impl Variable {
     {
         Variable {
             own_name: None,
-            takes_comma: is_gnu(language),
+            takes_comma: language.is_gnu(),
         }
     }
 
@@ -70,16 +69,6 @@ impl Variable {
         ensures { result ≡ self.now.takes_comma }
     {
         self.takes_comma
-    }
-}
-
-/// Whether a language is GNU C.
-pub fn is_gnu(language: Language) -> bool
-    ensures { result ≡ is_gnu language }
-{
-    match language {
-        Language::C17 | Language::Extended => false,
-        Language::Gnu => true,
     }
 }
 

@@ -1,6 +1,6 @@
 -- Trees without the places of their lines and without empty text lines: what preprocessing sees of a tree.
 use Rattle.std.proofs.Common.{◌≡◌, ℕ, ◌+◌, ◌&&◌, ◌||◌, Bool, true, false, not, cond, List, [], ◌∷◌, ◌++◌, Result, Ok, Err, refl, sym, ap, ◌∙◌}
-use Rattle.inc_token.specs.declared.kinds.Language.{Language}
+use Rattle.inc_text.specs.declared.languages.Language.{Language}
 use Rattle.inc_token.specs.BlankedLines.{AreReplaced, all_done, stays, empty_before, empty_last}
 use Rattle.inc_token.specs.LineWalk.{spaced_first}
 use Rattle.inc_token.specs.TokenLines.{Tok, TokenLine}

@@ -4,7 +4,7 @@ use Rattle.std.specs.Option.{option_map_or}
 use Rattle.std.proofs.Math.Path.{fun_ext}
 use Rattle.std.proofs.lemmas.List.Folds.{list_any-append}
 use Rattle.inc_text.specs.PhaseText.{phase_text}
-use Rattle.inc_token.specs.declared.kinds.Language.{Language}
+use Rattle.inc_text.specs.declared.languages.Language.{Language}
 use Rattle.inc_token.specs.declared.lines.LexFault.{LexFault}
 use Rattle.inc_token.specs.TokenLines.{TokenLine, token_lines}
 use Rattle.inc_token.proofs.BlankedLines.{blanked-lines}
@@ -45,11 +45,11 @@ abbrev tree_without : Language → (removed : ℕ → Bool) → Result (List Tok
 tree_without language removed r = lines_or_fault r >>= λ ls. tree_of_lines language (with_removed language removed ls)
 
 trees_same : (language : Language) (removed others : ℕ → Bool) (source : List ℕ)
-    → bare_result (text_tree language others (phase_text (blanked_source language removed source)))
-    ≡ bare_result (text_tree language (λ n. removed n || others n) (phase_text source))
-trees_same language removed others source = by (token_lines language (phase_text source)) refl where
-  by : (r : Result (List TokenLine) LexFault) → token_lines language (phase_text source) ≡ r
-      → bare_result (tree_without language others (token_lines language (phase_text (blanked_by language removed r source))))
+    → bare_result (text_tree language others (phase_text language (blanked_source language removed source)))
+    ≡ bare_result (text_tree language (λ n. removed n || others n) (phase_text language source))
+trees_same language removed others source = by (token_lines language (phase_text language source)) refl where
+  by : (r : Result (List TokenLine) LexFault) → token_lines language (phase_text language source) ≡ r
+      → bare_result (tree_without language others (token_lines language (phase_text language (blanked_by language removed r source))))
       ≡ bare_result (tree_without language (λ n. removed n || others n) r)
   by (Err fault) is = ap (λ r. bare_result (tree_without language others r)) is
   by (Ok ls) is =
@@ -98,11 +98,11 @@ module _ (settings : Settings) (listing : Listing) (without others : List Direct
       ≡ bare_result (tree_of settings.language listing (without ++ others) i)
   tree_blanked i =
       let zero_more : i ≡ 0 + i = omega arith in
-      ap (λ bytes. bare_result (text_tree settings.language (is_listed others i) (phase_text bytes)))
+      ap (λ bytes. bare_result (text_tree settings.language (is_listed others i) (phase_text settings.language bytes)))
       (bytes_blanked settings.language without listing.files 0 i i zero_more)
       ∙ trees_same settings.language (is_listed without i) (is_listed others i) (bytes_at listing i)
       ∙ ap (λ (removed : ℕ → Bool). bare_result (text_tree settings.language removed
-      (phase_text (bytes_at listing i)))) (sym (listed i))
+      (phase_text settings.language (bytes_at listing i)))) (sym (listed i))
 
   file_same : (deeper : Deeper) (to : Entry) (s : State) → file_read new deeper to s ≡ file_read old deeper to s
   file_same deeper to s =

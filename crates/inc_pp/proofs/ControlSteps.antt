@@ -1,7 +1,7 @@
 -- A directive of no section, from what was read to the file at hand.
 use Rattle.std.proofs.Common.{◌≡◌, ℕ, Bool, List, Option, Some, None, Result, Ok, Err, is_some, refl, sym, ap, ◌∙◌, ok_or, option_map}
 use Rattle.inc_token.specs.declared.kinds.IncludeName.{IncludeName}
-use Rattle.inc_token.specs.declared.kinds.Language.{Language}
+use Rattle.inc_text.specs.declared.languages.Language.{Language}
 use Rattle.inc_token.specs.TokenLines.{Tok}
 use Rattle.inc_directive.specs.Groups.{FileLine}
 use Rattle.inc_directive.specs.LineKinds.{Target, Quoted, Angled, Nothing, Text, Include, Other, line_of_tokens, search_after}

@@ -4,7 +4,7 @@ use Rattle.std.proofs.Math.Seq.{drop-append-add}
 use Rattle.std.specs.Prelude.{slice_get, drop}
 use Rattle.std.proofs.lemmas.List.Elements.{All-nil, All-cons}
 use Rattle.inc_token.specs.TokenLines.{TokenLine}
-use Rattle.inc_token.specs.declared.kinds.Language.{Language}
+use Rattle.inc_text.specs.declared.languages.Language.{Language}
 use Rattle.inc_directive.specs.Groups.{FileLine, Group, Link, role, group_at, group_tree, file_lines, file_lines_from}
 use Rattle.inc_directive.specs.Jumps.{IsPlanOf, Closes}
 use Rattle.inc_directive.specs.Parts.{FilePart, lines_from, lines_of_parts}

@@ -3,7 +3,7 @@ use Rattle.std.proofs.Common.{ℕ, zero, suc, ◌+◌, Bool, true, false, List, 
 use Rattle.std.specs.Prelude.{◌≢◌, IfOk, IfErr, IfSome, ok_or, option_map, if◌then◌else◌, bytes_eq, codes}
 use Rattle.inc_text.specs.PhaseText.{Cell, is_too_long, phase_text}
 use Rattle.inc_token.specs.declared.kinds.IncludeName.{IncludeName}
-use Rattle.inc_token.specs.declared.kinds.Language.{Language}
+use Rattle.inc_text.specs.declared.languages.Language.{Language}
 use Rattle.inc_token.specs.declared.lines.LexFault.{LexFault}
 use Rattle.inc_token.specs.declared.lines.LexFault.TheVariants as lex
 use Rattle.inc_token.specs.TokenLines.{Tok, TokenLine, token_lines}
@@ -127,8 +127,8 @@ if_long false r h = h
 
 pragma_has : (language : Language) (literal : List ℕ) → Has (pragma_tokens language literal)
 pragma_has language literal =
-    if_long (is_too_long (pragma_text literal)) (tokens_or_bad language (token_lines language (phase_text (pragma_text literal))))
-    (bad_has language (token_lines language (phase_text (pragma_text literal))))
+    if_long (is_too_long (pragma_text literal)) (tokens_or_bad language (token_lines language (phase_text language (pragma_text literal))))
+    (bad_has language (token_lines language (phase_text language (pragma_text literal))))
 
 before_has : (a : Laid) (r : Result Laid Cause) → Has r → Has (before a r)
 before_has a r h = then_has r _ h (λ b. tt)
@@ -320,7 +320,7 @@ file_has : (t : Task) (deeper : Deeper) (to : Entry) (s : State) → DeeperHas d
 file_has t deeper to s d =
     tree_has (record { task = t; index = to.at.file; next = to.at.next; deeper = deeper }) (tree_of t.settings.language t.listing t.without to.at.file)
     (with_read to.at.file s) (start (layout_in t) to) d
-    (text_has t.settings.language (is_listed t.without to.at.file) (phase_text (bytes_at t.listing to.at.file)))
+    (text_has t.settings.language (is_listed t.without to.at.file) (phase_text t.settings.language (bytes_at t.listing to.at.file)))
 
 reading_has : (left : ℕ) (t : Task) (to : Entry) (s : State) → Halts (reading left t to s)
 reading_has zero t to s = file_has t None to s tt

@@ -6,7 +6,7 @@ use Rattle.std.proofs.lemmas.List.{append-nil, map-append}
 use Rattle.inc_text.specs.declared.phases.TextFault.{TextFault}
 use Rattle.inc_text.specs.declared.phases.TextFault.TheVariants.{TooLong}
 use Rattle.inc_text.specs.PhaseText.{Cell, is_too_long, phase_text}
-use Rattle.inc_token.specs.declared.kinds.Language.{Language}
+use Rattle.inc_text.specs.declared.languages.Language.{Language}
 use Rattle.inc_token.specs.declared.lines.Token.{Token}
 use Rattle.inc_token.specs.TokenLines.{Tok, token_lines}
 use Rattle.inc_token.specs.Views.{seen}
@@ -18,17 +18,18 @@ use Rattle.inc_pp.specs.declared.causes.Cause.{Cause}
 use Rattle.inc_pp.specs.declared.causes.Cause.TheVariants.{BadPragma}
 use Rattle.inc_pp.specs.declared.operators.Operators.{Operators}
 use Rattle.inc_pp.specs.Operators.{Grows, marks_in, outcome, outcome_behind, takes_operand, tokens_in_text}
-use Rattle.inc_pp.specs.Pragmas.{Laid, after_name, before, is_gnu, laid, plain, pragma_text, pragma_tokens, tokens_or_bad}
+use Rattle.inc_text.specs.Languages.{is_gnu}
+use Rattle.inc_pp.specs.Pragmas.{Laid, after_name, before, laid, plain, pragma_text, pragma_tokens, tokens_or_bad}
 use Rattle.inc_pp.specs.Tasks.{OutToken, line_tokens}
 
 ---- a pragma's text
 
 -- that of the line for a literal
-pub text-tokens : (language : Language) (literal bytes : List ℕ) (text : List Cell) → bytes ≡ pragma_text literal → text ≡ phase_text bytes → is_too_long bytes ≡ false
+pub text-tokens : (language : Language) (literal bytes : List ℕ) (text : List Cell) → bytes ≡ pragma_text literal → text ≡ phase_text language bytes → is_too_long bytes ≡ false
     → pragma_tokens language literal ≡ tokens_or_bad language (token_lines language text)
 text-tokens language literal bytes text are is short =
-    ap (λ b. if b then Err BadPragma else tokens_or_bad language (token_lines language (phase_text (pragma_text literal)))) (ap is_too_long (sym are) ∙ short)
-    ∙ ap (λ (cells : List Cell). tokens_or_bad language (token_lines language cells)) (ap phase_text (sym are) ∙ sym is)
+    ap (λ b. if b then Err BadPragma else tokens_or_bad language (token_lines language (phase_text language (pragma_text literal)))) (ap is_too_long (sym are) ∙ short)
+    ∙ ap (λ (cells : List Cell). tokens_or_bad language (token_lines language cells)) (ap (phase_text language) (sym are) ∙ sym is)
 
 -- a text that was not too long
 pub short-text : (b : Bool) (text : List Cell) → (◌≡◌ {A = Result (List Cell) TextFault} (Ok text) (Err TooLong) ↔ (b ≡ true)) → b ≡ false
@@ -39,9 +40,9 @@ short-text true text iff = not_long (iff.1 refl)
 short-text false text iff = refl
 
 module _ (o : Operators) (literal : List ℕ) (at : ℕ) (line : Option (List Cell)) (is_literal : literal ≡ o.literal.items)
-    (reads : (language : Language) → pragma_tokens language literal ≡ tokens_in_text language line) where
+    (reads : pragma_tokens o.language literal ≡ tokens_in_text o.language line) where
   reads_own : pragma_tokens o.language o.literal.items ≡ tokens_in_text o.language line
-  reads_own = ap (pragma_tokens o.language) (sym is_literal) ∙ reads o.language
+  reads_own = ap (pragma_tokens o.language) (sym is_literal) ∙ reads
 
   pub text-acted : (new : Operators) (text : List Cell) → line ≡ Some text → ((is : List Item) → outcome new is ≡ outcome_behind (tokens_in_text o.language (Some text)) at o is)
       → (is : List Item) → outcome new is ≡ outcome_behind (pragma_tokens o.language o.literal.items) at o is

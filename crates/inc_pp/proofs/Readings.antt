@@ -5,7 +5,7 @@ use Rattle.std.proofs.lemmas.Bool.{eqb-true, eqb-false}
 use Rattle.std.proofs.lemmas.List.Elements.{All-nil, All-cons, All-head, All-tail, Contains-append_left, Contains-push, Contains-push_cases, Contains-append_right}
 use Rattle.inc_text.specs.PhaseText.{phase_text}
 use Rattle.inc_text.specs.declared.devices.ReadFault.{ReadFault}
-use Rattle.inc_token.specs.declared.kinds.Language.{Language}
+use Rattle.inc_text.specs.declared.languages.Language.{Language}
 use Rattle.inc_directive.specs.Groups.{Group, group_tree}
 use Rattle.inc_directive.specs.Parts.{FilePart, lines_of_parts}
 use Rattle.inc_lookup.specs.DirectiveLists.{is_listed}
@@ -173,13 +173,13 @@ module _ {S : Type 0} (gives : S → ℕ → Result (List ℕ) ReadFault → S �
   agrees-before listing agrees = All-tail (λ (g : Given). bytes_at listing g.file ≡ g.bytes) one given agrees
 
   -- its tree, or its fault, is that of the bytes that were given
-  pub tree-given : (listing : Listing) → Agrees (one ∷ given) listing → tree_of language listing without file ≡ text_tree language (is_listed without file) (phase_text bytes)
+  pub tree-given : (listing : Listing) → Agrees (one ∷ given) listing → tree_of language listing without file ≡ text_tree language (is_listed without file) (phase_text language bytes)
   tree-given listing agrees =
-      ap (λ bs. text_tree language (is_listed without file) (phase_text bs)) (All-head (λ (g : Given). bytes_at listing g.file ≡ g.bytes) one given agrees)
+      ap (λ bs. text_tree language (is_listed without file) (phase_text language bs)) (All-head (λ (g : Given). bytes_at listing g.file ≡ g.bytes) one given agrees)
 
   pub shared-more : (r : Result (List FilePart) FileFault) → IfOk r (λ ps. AreOf language (lines_of_parts ps))
-      → ((ls : List FilePart) → r ≡ Ok ls → (g : Group) × (group_tree (lines_of_parts ls) ≡ Ok g) × (text_tree language (is_listed without file) (phase_text bytes) ≡ Ok g))
-      → ((fault : FileFault) → r ≡ Err fault → text_tree language (is_listed without file) (phase_text bytes) ≡ Err fault)
+      → ((ls : List FilePart) → r ≡ Ok ls → (g : Group) × (group_tree (lines_of_parts ls) ≡ Ok g) × (text_tree language (is_listed without file) (phase_text language bytes) ≡ Ok g))
+      → ((fault : FileFault) → r ≡ Err fault → text_tree language (is_listed without file) (phase_text language bytes) ≡ Err fault)
       → AreShared gives first later layout language without (set held file (Some r)) (one ∷ given)
   shared-more r kinds is_tree is_fault = record {
     gave = (now, shared.gave, step);
@@ -257,8 +257,8 @@ module _ {S : Type 0} (gives : S → ℕ → Result (List ℕ) ReadFault → S �
     -- one more file is read: it has a tree, or else a fault
     pub reading-more : (later : S) (file : ℕ) (bytes : List ℕ) → file < length j.layout.paths → known_at held file ≡ None → gives new file (Ok bytes) later
         → (q : Result (List FilePart) FileFault) → IfOk q (λ ps. AreOf j.settings.language (lines_of_parts ps))
-        → ((ls : List FilePart) → q ≡ Ok ls → (g : Group) × (group_tree (lines_of_parts ls) ≡ Ok g) × (text_tree j.settings.language (is_listed j.without file) (phase_text bytes) ≡ Ok g))
-        → ((fault : FileFault) → q ≡ Err fault → text_tree j.settings.language (is_listed j.without file) (phase_text bytes) ≡ Err fault)
+        → ((ls : List FilePart) → q ≡ Ok ls → (g : Group) × (group_tree (lines_of_parts ls) ≡ Ok g) × (text_tree j.settings.language (is_listed j.without file) (phase_text j.settings.language bytes) ≡ Ok g))
+        → ((fault : FileFault) → q ≡ Err fault → text_tree j.settings.language (is_listed j.without file) (phase_text j.settings.language bytes) ≡ Err fault)
         → (next : Task → Result State Halt)
         → ((listing : Listing) → layout_of listing ≡ j.layout → HaveTrees j.settings.language j.without (set held file (Some q)) listing
         → left (task_of j listing) ≡ next (task_of j listing))

@@ -1,7 +1,7 @@
 -- The state after a run, by what it puts out.
 use Rattle.std.proofs.Common.{◌≡◌, refl, ap, sym, ◌∙◌, ℕ, Bool, true, false, List, ◌++◌, Option, None, Result, Ok, Err}
 use Rattle.std.specs.Prelude.{if◌then◌else◌}
-use Rattle.inc_token.specs.declared.kinds.Language.{Language}
+use Rattle.inc_text.specs.declared.languages.Language.{Language}
 use Rattle.inc_token.specs.TokenLines.{Tok}
 use Rattle.inc_directive.specs.Groups.{FileLine}
 use Rattle.inc_directive.specs.LineKinds.{line_of_tokens}

@@ -199,7 +199,7 @@ module _ {S : Type 0} (gives : S → ℕ → Result (List ℕ) ReadFault → S �
 
     module _ (later : S) (bytes : List ℕ) (none : known_at held from.at.file ≡ None) (step : gives new from.at.file (Ok bytes) later) where
       -- it is read, and has a tree
-      pub enter-load : (ls : List FilePart) (tree : Group) (frame : Frame) → text_tree j.settings.language (is_listed j.without from.at.file) (phase_text bytes) ≡ Ok tree → group_tree (lines_of_parts ls) ≡ Ok tree
+      pub enter-load : (ls : List FilePart) (tree : Group) (frame : Frame) → text_tree j.settings.language (is_listed j.without from.at.file) (phase_text j.settings.language bytes) ≡ Ok tree → group_tree (lines_of_parts ls) ≡ Ok tree
           → AreOf j.settings.language (lines_of_parts ls) → frame ≡ first_frame j.layout from
           → IsWalk gives old later j (set held from.at.file (Some (Ok ls))) (frame ∷ frames) (with_read from.at.file s)
       enter-load ls tree frame has same kinds is =
@@ -222,7 +222,7 @@ module _ {S : Type 0} (gives : S → ℕ → Result (List ℕ) ReadFault → S �
           }
 
       -- it is read, and has none
-      pub enter-bad : (line : ℕ) (cause : Cause) → text_tree j.settings.language (is_listed j.without from.at.file) (phase_text bytes) ≡ Err (cause, line)
+      pub enter-bad : (line : ℕ) (cause : Cause) → text_tree j.settings.language (is_listed j.without from.at.file) (phase_text j.settings.language bytes) ≡ Err (cause, line)
           → IsOver gives old later j (set held from.at.file (Some (Err (cause, line))))
           (record { tokens = s.output; reads = s.reads ++ from.at.file ∷ []; stop = Some (record { file = from.at.file; line = line; cause = cause }) })
       enter-bad line cause has =

@@ -1,7 +1,7 @@
 -- The steps of directives that are of no section by what they read, whatever the file at hand.
 use Rattle.std.specs.Prelude.{ℕ, Bool, List, length, drop, nat_le, if◌then◌else◌, Option, Some, None, Result, Ok, Err, ok_or}
 use Rattle.inc_token.specs.declared.kinds.IncludeName.{IncludeName}
-use Rattle.inc_token.specs.declared.kinds.Language.{Language}
+use Rattle.inc_text.specs.declared.languages.Language.{Language}
 use Rattle.inc_token.specs.TokenLines.{Tok}
 use Rattle.inc_directive.specs.LineKinds.{Target, Quoted, Angled, Nothing, line_of_tokens}
 use Rattle.inc_directive.specs.declared.kinds.DirectiveKind.{DirectiveKind}

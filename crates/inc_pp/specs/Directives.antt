@@ -2,8 +2,8 @@
 -- are; `#warning` changes nothing. GNU C has line markers, `#pragma push_macro` and `#pragma pop_macro`.
 use Rattle.std.specs.Prelude.{ℕ, ◌+◌, ◌&&◌, ◌||◌, Bool, true, false, List, [], ◌∷◌, Option, Some, None, Result, Ok, Err, if◌then◌else◌, take, drop, nat_le, nat_lt, codes, bytes_eq, pos, ◌-ℤ◌, ℤ, option_map, option_and_then, ok_or}
 use Rattle.std.specs.List.{list_all}
-use Rattle.inc_token.specs.declared.kinds.Language.{Language}
-use Rattle.inc_token.specs.declared.kinds.Language.TheVariants.{Gnu}
+use Rattle.inc_text.specs.declared.languages.Language.{Language}
+use Rattle.inc_text.specs.declared.languages.Language.TheVariants.{Gnu}
 use Rattle.inc_token.specs.declared.kinds.Kind.{Kind}
 use Rattle.inc_token.specs.declared.kinds.Kind.TheVariants.{Number}
 use Rattle.inc_token.specs.Spellings.{is_digit}
@@ -20,7 +20,7 @@ use Rattle.inc_pp.specs.declared.causes.Cause.{Cause}
 use Rattle.inc_pp.specs.declared.causes.Cause.TheVariants as cause
 use Rattle.inc_pp.specs.Includes.{is_plain_string, include_target, included, with_once}
 pub use Rattle.inc_pp.specs.Pragmas.{names_once, put_pragma, is_stacking, restacked}
-use Rattle.inc_pp.specs.Pragmas.{is_gnu}
+use Rattle.inc_text.specs.Languages.{is_gnu}
 use Rattle.inc_pp.specs.Runs.{expanded, marks_in, put_out}
 use Rattle.inc_pp.specs.Sections.{operands}
 use Rattle.inc_pp.specs.Tasks.{File, State, Here, Halt, caused, halting}

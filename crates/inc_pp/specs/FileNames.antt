@@ -6,8 +6,8 @@ use Rattle.std.specs.List.{list_any}
 use Rattle.std.specs.Option.{option_map_or}
 use Rattle.inc_lookup.specs.IncludePath.{NamedDir}
 use Rattle.inc_text.specs.Ascii.{slash}
-use Rattle.inc_token.specs.declared.kinds.Language.{Language}
-use Rattle.inc_token.specs.declared.kinds.Language.TheVariants.{Gnu}
+use Rattle.inc_text.specs.declared.languages.Language.{Language}
+use Rattle.inc_text.specs.declared.languages.Language.TheVariants.{Gnu}
 use Rattle.inc_pp.specs.declared.file_names.TheConstants.{LONGEST_SPELLING}
 use Rattle.inc_pp.specs.Settings.{Settings}
 

@@ -2,7 +2,7 @@
 -- include directives can be taken as removed.
 use Rattle.std.specs.Prelude.{ℕ, Bool, List, Result, Ok, Err}
 use Rattle.inc_text.specs.PhaseText.{Cell, phase_text}
-use Rattle.inc_token.specs.declared.kinds.Language.{Language}
+use Rattle.inc_text.specs.declared.languages.Language.{Language}
 use Rattle.inc_token.specs.declared.lines.LexFault.{LexFault}
 use Rattle.inc_token.specs.declared.lines.LexFault.TheVariants as lex
 use Rattle.inc_token.specs.TokenLines.{TokenLine, token_lines}
@@ -48,4 +48,4 @@ text_tree language removed text =
 -- the tree of a file, once these directives are removed
 abbrev pub tree_of : Language → Listing → List DirectiveId → ℕ → Result Group FileFault
 tree_of language listing without file =
-    text_tree language (is_listed without file) (phase_text (bytes_at listing file))
+    text_tree language (is_listed without file) (phase_text language (bytes_at listing file))

@@ -2,7 +2,7 @@
 -- put out where the caller asks for them.
 use Rattle.std.specs.Prelude.{ℕ, ◌+◌, ◌==◌, Bool, true, false, List, [], ◌∷◌, ◌++◌, Option, Some, None, if◌then◌else◌, codes, decimal}
 use Rattle.inc_token.specs.declared.kinds.Kind.TheVariants.{Number, Punct, Str}
-use Rattle.inc_token.specs.declared.kinds.Language.{Language}
+use Rattle.inc_text.specs.declared.languages.Language.{Language}
 use Rattle.inc_expand.specs.Expansion.{Item, Place, presumed_line}
 use Rattle.inc_pp.specs.Settings.{Settings}
 use Rattle.inc_pp.specs.Tasks.{OutToken, line_tokens}

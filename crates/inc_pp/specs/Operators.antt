@@ -1,7 +1,7 @@
 -- Expanded tokens that are taken one by one: what they put out once the rest has come.
 use Rattle.std.specs.Prelude.{◌≡◌, ℕ, ◌++◌, Bool, List, ◌∷◌, Option, Some, None, Result, Err, option_map}
 use Rattle.inc_text.specs.PhaseText.{Cell}
-use Rattle.inc_token.specs.declared.kinds.Language.{Language}
+use Rattle.inc_text.specs.declared.languages.Language.{Language}
 use Rattle.inc_token.specs.TokenLines.{Tok, token_lines}
 use Rattle.inc_macro.specs.Results.{◌>>=◌}
 use Rattle.inc_expand.specs.Expansion.{Item, Place}

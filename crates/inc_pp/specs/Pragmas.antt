@@ -7,8 +7,9 @@ use Rattle.inc_text.specs.Ascii.{backslash, quotation_mark}
 use Rattle.inc_text.specs.PhaseText.{is_too_long, phase_text}
 use Rattle.inc_token.specs.declared.kinds.Kind.{Kind}
 use Rattle.inc_token.specs.declared.kinds.Kind.TheVariants.{Identifier}
-use Rattle.inc_token.specs.declared.kinds.Language.{Language}
-use Rattle.inc_token.specs.declared.kinds.Language.TheVariants.{Gnu}
+use Rattle.inc_text.specs.declared.languages.Language.{Language}
+use Rattle.inc_text.specs.declared.languages.Language.TheVariants.{C17}
+use Rattle.inc_text.specs.Languages.{is_gnu}
 use Rattle.inc_token.specs.declared.lines.LexFault.{LexFault}
 use Rattle.inc_token.specs.Spellings.{class_of}
 use Rattle.inc_token.specs.TokenLines.{Tok, TokenLine, token_lines}
@@ -45,10 +46,6 @@ plain language marks last i = record { tokens = next_token language marks last i
 
 ---- pragmas
 
-abbrev pub is_gnu : Language → Bool
-is_gnu Gnu = true
-is_gnu _ = false
-
 -- `once` comes first
 abbrev pub names_once : List Tok → Bool
 names_once [] = false
@@ -75,7 +72,7 @@ is_plain_byte b = nat_lt b 128 && not (b == backslash)
 
 -- an identifier of such characters
 abbrev pub is_plain_name : List ℕ → Bool
-is_plain_name text = is_identifier (class_of text) && list_all is_plain_byte text
+is_plain_name text = is_identifier (class_of C17 text) && list_all is_plain_byte text
 
 -- a string literal that has such a name between its quotation marks, and no prefix
 abbrev pub is_name_literal : Tok → Bool
@@ -156,7 +153,7 @@ tokens_or_bad language (Err fault) = Err BadPragma
 abbrev pub pragma_tokens : Language → (literal : List ℕ) → Result (List Tok) Cause
 pragma_tokens language literal =
     if is_too_long (pragma_text literal) then Err BadPragma
-    else tokens_or_bad language (token_lines language (phase_text (pragma_text literal)))
+    else tokens_or_bad language (token_lines language (phase_text language (pragma_text literal)))
 
 ---- operators
 

@@ -4,7 +4,7 @@ use Rattle.std.specs.Prelude.{ℕ, ◌==◌, ◌&&◌, ◌||◌, not, Bool, fals
 use Rattle.std.specs.List.{list_all}
 use Rattle.inc_text.specs.Ascii.{quotation_mark, backslash}
 use Rattle.inc_lookup.specs.IncludePath.{NamedDir}
-use Rattle.inc_token.specs.declared.kinds.Language.{Language}
+use Rattle.inc_text.specs.declared.languages.Language.{Language}
 use Rattle.inc_pp.specs.declared.settings.Missing.{Missing}
 
 -- language, date and time, what an include does whose file is not found, whether lines are marked, and how files are called

@@ -2,7 +2,7 @@
 use Rattle.std.specs.Prelude.{◌≡◌, ◌≢◌, ℕ, List, Some, None, Result, Ok, Err, length, Contains}
 use Rattle.std.specs.List.{All}
 use Rattle.inc_text.specs.declared.devices.ReadFault.{ReadFault}
-use Rattle.inc_token.specs.declared.kinds.Language.{Language}
+use Rattle.inc_text.specs.declared.languages.Language.{Language}
 use Rattle.inc_directive.specs.Groups.{Group, group_tree}
 use Rattle.inc_directive.specs.Parts.{FilePart, lines_of_parts}
 use Rattle.inc_lookup.specs.declared.projects.DirectiveId.{DirectiveId}

@@ -15,7 +15,6 @@ use crate::causes::Cause;
 use crate::faults::Break;
 use crate::operators::Operators;
 use crate::output::Output;
-use crate::pragmas::is_gnu;
 use inc_expand::{Budget, ExpandFault, Item, Mode, Place, expand, expand_into};
 use inc_macro::Macros;
 use inc_token::Token;
@@ -83,7 +82,7 @@ pub(crate) fn put_expanded<'a>(
         ≡ Err cause))) }
     ensures left { OnErr result (budget.new ≡ budget.old) }
 {
-    if marks.is_some() || is_gnu(around.macros.language()) {
+    if marks.is_some() || around.macros.language().is_gnu() {
         let once = put_operated(around, marks, tokens, budget, output)?;
         return Ok(once);
     }

@@ -4,7 +4,7 @@ ghost use Rattle.inc_pp.specs.FileNames as spec;
 
 use crate::settings::Settings;
 use inc_lookup::NamedDir;
-use inc_token::Language;
+use inc_text::Language;
 use memchr::memrchr;
 use std::alloc::{AllocError, Global};
 

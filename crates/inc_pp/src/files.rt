@@ -15,8 +15,7 @@ use crate::causes::Cause;
 use crate::faults::Break;
 use crate::held_files::HeldFile;
 use inc_lookup::{DirectiveSet, FileId, Project, Sources};
-use inc_text::{ReadFault, Text, TextFault, splice_owned};
-use inc_token::Language;
+use inc_text::{Language, ReadFault, Text, TextFault, splice_owned};
 use std::alloc::{AllocError, Global};
 use std::marker::Model;
 
@@ -132,12 +131,12 @@ impl Files {
         ensures held { OnOk result ((bytes : List ℕ) × (ps : List FilePart) × (tree : Group)
             × S.gives sources.old file (Ok bytes) sources.new
             × (self.new ≡ set self.old file (Some (Ok ps))) × AreOf language (lines_of_parts ps)
-            × (text_tree language (is_listed removed.now file) (phase_text bytes) ≡ Ok tree)
+            × (text_tree language (is_listed removed.now file) (phase_text language bytes) ≡ Ok tree)
             × (group_tree (lines_of_parts ps) ≡ Ok tree)) }
         ensures stop { IfErr result (λ fault. IfBadFile fault (λ line cause. (bytes : List ℕ)
             × S.gives sources.old file (Ok bytes) sources.new
             × (self.new ≡ set self.old file (Some (Err (cause, line))))
-            × (text_tree language (is_listed removed.now file) (phase_text bytes) ≡ Err (cause, line)))) }
+            × (text_tree language (is_listed removed.now file) (phase_text language bytes) ≡ Err (cause, line)))) }
         ensures unread { IfErr result (λ fault. IfUnread fault (λ why.
             S.gives sources.old file (Err why) sources.new × (why ≢ ReadFault.NoMemory))) }
     {
@@ -183,13 +182,13 @@ fn held_file(
 ) -> Result<HeldFile, Break>
     requires short { length bytes.items ≤ LONGEST_FILE }
     ensures held { IfOk result (λ held. (tree : Group)
-        × (text_tree language (is_listed removed.now file) (phase_text bytes.items) ≡ Ok tree)
+        × (text_tree language (is_listed removed.now file) (phase_text language bytes.items) ≡ Ok tree)
         × (group_tree (lines_of_parts held) ≡ Ok tree)) }
     ensures kinds { IfOk result (λ held. AreOf language (lines_of_parts held)) }
     ensures fault { IfErr result (λ fault. IfStop fault (λ line cause.
-        text_tree language (is_listed removed.now file) (phase_text bytes.items) ≡ Err (cause, line))) }
+        text_tree language (is_listed removed.now file) (phase_text language bytes.items) ≡ Err (cause, line))) }
 {
-    let text = match splice_owned(alloc, bytes) {
+    let text = match splice_owned(alloc, bytes, language) {
         Ok(text) => text,
         // The bytes are not too many.
         Err(TextFault::TooLong) => unreachable!(),

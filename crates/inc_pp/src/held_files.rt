@@ -28,8 +28,8 @@ use inc_directive::laws::sections_close;
 use inc_directive::{BalanceFault, FileLines, Plan, balance};
 use inc_lookup::Project;
 use inc_macro::Macros;
-use inc_text::Text;
-use inc_token::{Language, LexFault};
+use inc_text::{Language, Text};
+use inc_token::LexFault;
 use std::alloc::Global;
 use std::marker::Model;
 

@@ -16,12 +16,12 @@ use crate::entries::{Entry, Standing};
 use crate::headers::is_plain_string;
 use crate::lines::operands;
 use crate::literals::literal_of;
-use crate::pragmas::is_gnu;
 use crate::settings::Settings;
 use inc_directive::DirectiveKind;
 use inc_expand::{Item, Place};
 use inc_lookup::Project;
-use inc_token::{Kind, Language, Token};
+use inc_text::Language;
+use inc_token::{Kind, Token};
 use std::alloc::{AllocError, Global};
 use std::marker::Model;
 
@@ -160,7 +160,7 @@ fn names_system(language: Language, tokens: &[Token<'_>]) -> bool
 {
     match tokens {
         [first, second, ..] => {
-            is_gnu(language)
+            language.is_gnu()
                 && first.spelling == b"GCC".as_slice()
                 && is_system_header(second.spelling)
         }

@@ -11,10 +11,10 @@ ghost use Rattle.inc_pp.specs.Pragmas as spec;
 use crate::causes::Cause;
 use crate::lines::operands;
 use crate::output::Output;
-use crate::pragmas::{is_gnu, is_stacking, names_once, pragma_line, put_tokens};
+use crate::pragmas::{is_stacking, names_once, pragma_line, put_tokens};
 use inc_expand::{ItemRef, Place, Sink};
-use inc_text::Text;
-use inc_token::{Kind, Language, LexFault, Lines, Token, lex};
+use inc_text::{Language, Text};
+use inc_token::{Kind, LexFault, Lines, Token, lex};
 use std::alloc::{AllocError, Global};
 
 /// What a token has to be.
@@ -166,7 +166,7 @@ impl<'p> Operators<'p> {
             ≡ outcome_behind (spec.pragma_tokens self.old.language self.old.literal.items) line self.old is) }
         ensures grows { OnOk result (Grows self.old.output self.new.output) }
     {
-        match pragma_line(self.alloc, &self.literal)? {
+        match pragma_line(self.alloc, &self.literal, self.language)? {
             Some(text) => {
                 self.act_on_text(&text, line)?;
                 Ok(())
@@ -268,7 +268,7 @@ impl<'p> Sink for Operators<'p> {
 fn is_operator(language: Language, token: ItemRef<'_>) -> bool
     ensures { result ≡ spec.is_operator language (seen_ref token.entry) }
 {
-    is_gnu(language) && token.kind == Kind::Identifier && token.bytes == b"_Pragma".as_slice()
+    language.is_gnu() && token.kind == Kind::Identifier && token.bytes == b"_Pragma".as_slice()
 }
 
 /// The tokens of the first line.

@@ -14,7 +14,8 @@ ghost use Rattle.inc_pp.specs.Tasks.{line_tokens};
 
 use crate::labels::Label;
 use inc_expand::{ItemRef, Place, Sink};
-use inc_token::{Kind, Language, Token};
+use inc_text::Language;
+use inc_token::{Kind, Token};
 use itoa::Buffer;
 use std::alloc::{AllocError, Global};
 use std::marker::Model;

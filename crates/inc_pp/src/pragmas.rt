@@ -5,7 +5,7 @@ ghost use Rattle.inc_text.specs.Ascii.{quotation_mark};
 ghost use Rattle.inc_token.specs.Spellings.{class_of};
 ghost use Rattle.inc_token.specs.Views.{seen};
 ghost use Rattle.inc_token.specs.TokenLines.{Tok};
-ghost use Rattle.inc_token.specs.declared.kinds.Language.{Language};
+ghost use Rattle.inc_text.specs.declared.languages.Language.{Language};
 ghost use Rattle.inc_directive.specs.LineKinds.{inner_bytes};
 ghost use Rattle.inc_macro.specs.Macros.{is_among, stands_first};
 ghost use Rattle.inc_pp.specs.Operators.{tokens_in_text};
@@ -13,17 +13,20 @@ ghost use Rattle.inc_pp.specs.Pragmas as spec;
 
 use crate::headers::{begins_with_quote, inner_bytes};
 use crate::lines::operands;
-use inc_text::{Text, TextFault, splice_owned};
-use inc_token::{Kind, Language, Token, kind_of};
+use inc_text::{Language, Text, TextFault, splice_owned};
+use inc_token::{Kind, Token, kind_of};
 use std::alloc::{AllocError, Global};
 
 /// The text of the line that stands for a pragma by its literal; `None` where the line is too long.
-pub(crate) fn pragma_line(alloc: Global, literal: &[u8]) -> Result<Option<Text>, AllocError>
-    ensures { (language : Language) → IfOk result (λ text.
-        spec.pragma_tokens language literal.now ≡ tokens_in_text language text) }
+pub(crate) fn pragma_line(
+    alloc: Global,
+    literal: &[u8],
+    language: Language,
+) -> Result<Option<Text>, AllocError>
+    ensures { IfOk result (λ text. spec.pragma_tokens language literal.now ≡ tokens_in_text language text) }
 {
     let text = pragma_text(alloc, literal)?;
-    match splice_owned(alloc, text) {
+    match splice_owned(alloc, text, language) {
         Ok(text) => Ok(Some(text)),
         Err(TextFault::TooLong) => Ok(None),
         Err(TextFault::NoMemory) => Err(AllocError),
@@ -96,7 +99,7 @@ fn is_silent(language: Language, tokens: &[Token<'_>]) -> bool
 {
     match tokens {
         [first, second, ..] => {
-            is_gnu(language)
+            language.is_gnu()
                 && first.spelling == b"GCC".as_slice()
                 && is_silent_name(second.spelling)
         }
@@ -119,7 +122,7 @@ pub(crate) fn is_stacking(language: Language, tokens: &[Token<'_>]) -> bool
 {
     match tokens {
         [] => false,
-        [first, ..] => is_gnu(language) && is_stacking_name(first.spelling),
+        [first, ..] => language.is_gnu() && is_stacking_name(first.spelling),
     }
 }
 
@@ -188,9 +191,9 @@ fn is_plain_name(text: &[u8]) -> bool
 
 /// Whether a text is an identifier.
 fn is_identifier(text: &[u8]) -> bool
-    ensures { result ≡ spec.is_identifier (class_of text.now) }
+    ensures { result ≡ spec.is_identifier (class_of Language.C17 text.now) }
 {
-    matches!(kind_of(text), Some(Kind::Identifier))
+    matches!(kind_of(Language::C17, text), Some(Kind::Identifier))
 }
 
 /// Whether a text has ASCII characters alone, and no backslash.
@@ -214,15 +217,5 @@ pub(crate) fn names_once(tokens: &[Token<'_>]) -> bool
     match tokens {
         [] => false,
         [first, ..] => first.spelling == b"once".as_slice(),
-    }
-}
-
-/// Whether the language is GNU C, which has pragma operators.
-pub(crate) fn is_gnu(language: Language) -> bool
-    ensures { result ≡ spec.is_gnu language }
-{
-    match language {
-        Language::Gnu => true,
-        Language::C17 | Language::Extended => false,
     }
 }

@@ -4,7 +4,7 @@ ghost use Rattle.std.specs.List.{list_all};
 ghost use Rattle.inc_pp.specs.Settings as spec;
 
 use inc_lookup::NamedDir;
-use inc_token::Language;
+use inc_text::Language;
 use std::marker::Model;
 
 /// What an include directive does whose header is not found.

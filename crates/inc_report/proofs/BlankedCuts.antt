@@ -1,6 +1,6 @@
 -- The blanked files of a cut preprocess as the old ones do without its directives, and so the header is not read.
 use Rattle.std.proofs.Common.{sym, ap, ◌∙◌}
-use Rattle.inc_token.specs.declared.kinds.Language.{Language}
+use Rattle.inc_text.specs.declared.languages.Language.{Language}
 use Rattle.inc_graph.specs.Cuts.{directives_of}
 use Rattle.inc_pp.specs.BlankedProjects.{blanked_listing}
 use Rattle.inc_pp.specs.Preprocessing.{preprocessing}

@@ -7,7 +7,7 @@ use Rattle.std.proofs.Math.Seq.{take-add, drop-cons, drop-nil}
 use Rattle.std.proofs.lemmas.Bool.{cond-true, cond-false, eqb-true, eqb-false, ne_eqb, eq-eqb, or_left, or_right}
 use Rattle.std.proofs.lemmas.List.{append_assoc, append-nil, take-append-drop, take_all}
 use Rattle.std.proofs.lemmas.List.Folds.{list_any-append}
-use Rattle.inc_token.specs.declared.kinds.Language.{Language}
+use Rattle.inc_text.specs.declared.languages.Language.{Language}
 use Rattle.inc_directive.specs.BlankedSources.{blanked_source}
 use Rattle.inc_directive.specs.Removal.{is_among}
 use Rattle.inc_lookup.specs.declared.projects.DirectiveId.{DirectiveId}

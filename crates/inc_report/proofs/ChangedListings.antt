@@ -8,7 +8,7 @@ use Rattle.std.proofs.lemmas.Slice.Eq.{bytes_eq-Decides}
 use Rattle.inc_text.specs.PhaseText.{phase_text}
 use Rattle.inc_token.specs.Blanking.{blanked_from, line_range}
 use Rattle.inc_token.specs.TokenLines.{TokenLine, token_lines}
-use Rattle.inc_token.specs.declared.kinds.Language.{Language}
+use Rattle.inc_text.specs.declared.languages.Language.{Language}
 use Rattle.inc_token.specs.declared.lines.LexFault.{LexFault}
 use Rattle.inc_directive.specs.BlankedSources.{blanked_by, blanked_source}
 use Rattle.inc_directive.specs.LineKinds.{line_kind}
@@ -54,7 +54,7 @@ unheld_stays : (language : Language) (ds : List DirectiveId) (i : ℕ) (bytes : 
 unfolding never
 unheld_stays language ds i bytes none =
     let no_line : is_listed ds i ≡ never = fun_ext (λ n. not_listed ds i n none) in
-    ap (λ (t : ℕ → Bool). blanked_source language t bytes) no_line ∙ nothing_blanked language (token_lines language (phase_text bytes)) bytes
+    ap (λ (t : ℕ → Bool). blanked_source language t bytes) no_line ∙ nothing_blanked language (token_lines language (phase_text language bytes)) bytes
 
 ---- no two files have one path
 

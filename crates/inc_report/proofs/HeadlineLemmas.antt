@@ -4,7 +4,7 @@ use Rattle.std.specs.Prelude.{not, IsTrue}
 use Rattle.std.specs.List.{list_all}
 use Rattle.inc_lookup.specs.declared.projects.DirectiveId.{DirectiveId}
 use Rattle.inc_lookup.specs.Given.{Given}
-use Rattle.inc_lookup.specs.Projects.{Layout, Listing, layout_of}
+use Rattle.inc_lookup.specs.Projects.{Layout, Listing, layout_of, path_at}
 use Rattle.inc_graph.specs.Cuts.{fixed_by, costs_by, directives_of}
 use Rattle.inc_graph.specs.IncludeGraph.{Graph, IsGraphAnswer}
 use Rattle.inc_graph.specs.MarkedEdges.{amounts_by}
@@ -21,17 +21,18 @@ use Rattle.inc_check.specs.Texts.{IsCertificateText}
 use Rattle.inc_check.proofs.AcceptedCuts.{cut_is_accepted}
 use Rattle.inc_check.proofs.VerdictLemmas.{yes_is_certificate}
 use Rattle.inc_report.specs.CheckText.{verdict_printed, IsCheckOf}
-use Rattle.inc_report.specs.CutText.{WithAmounts, Unhindered, marks_refusal, IsCutOf, IsFixedPrinted}
+use Rattle.inc_report.specs.CutText.{WithAmounts, blocked, Unhindered, marks_refusal, IsCutOf, IsFixedPrinted}
 use Rattle.inc_report.specs.Fitting.{IsFitCutOf}
 use Rattle.inc_report.specs.Headline.{NeverReadAny, KeepsHeadersOut, IsWhollyFixed, CutHeadline, CheckHeadline}
 use Rattle.inc_report.specs.MissingNotes.{empty_notes}
 use Rattle.inc_report.specs.NamedFiles.{headers_at, sources_at}
 use Rattle.inc_report.specs.Printed.{Printed}
-use Rattle.inc_report.specs.Questions.{Answer, IsAnswer, IsAnswerBy, WithFiles, WithGraph, OfGraph, IsRefusalOf}
-use Rattle.inc_report.specs.Refusals.{Refusal, refusal, NoSuchSource, NoSuchHeader, BadFile, TooManyDirectives, Blocked, Malformed}
+use Rattle.inc_report.specs.Questions.{Answer, IsAnswer, IsAnswerBy, WithFiles, WithGraph, OfGraph, IsRefusalOf, no_header, no_source}
+use Rattle.inc_report.specs.Refusals.{Refusal, refusal, TooManyDirectives, Malformed}
 use Rattle.inc_report.specs.Known.{IsKnown}
 use Rattle.inc_report.proofs.KnownParts.{OfKnown}
-use Rattle.inc_report.specs.MarkTexts.{mark_at}
+use Rattle.inc_directive.specs.declared.files.FileFault.{FileFault}
+use Rattle.inc_report.specs.FaultReasons.{bad_file}
 use Rattle.inc_report.specs.Terms.{Question, Limits, named_directives, setting_in}
 use Rattle.inc_report.specs.declared.outcome.EndKind.{EndKind}
 use Rattle.inc_report.specs.declared.outcome.EndKind.TheVariants.{Answered, Negative, Refused}
@@ -47,6 +48,22 @@ IsStated p = p.end.kind ≡ Refused → ⊥
 never_refused : (r : Refusal) (p : Printed) → p ≡ refusal r → IsStated p → ⊥
 unfolding IsStated
 never_refused r p is stated = stated (ap (λ (q : Printed). q.end.kind) is)
+
+never_blocked : (layout : Layout) (bs : List Blocker) (p : Printed) → p ≡ blocked layout bs → IsStated p → ⊥
+unfolding IsStated
+never_blocked layout bs p is stated = stated (ap (λ (r : Printed). r.end.kind) is)
+
+never_bad_file : (path : List ℕ) (fault : FileFault) (p : Printed) → p ≡ bad_file path path fault → IsStated p → ⊥
+unfolding IsStated
+never_bad_file path fault p is stated = stated (ap (λ (r : Printed). r.end.kind) is)
+
+never_without_source : (layout : Layout) (q : Question) (i : ℕ) (p : Printed) → p ≡ no_source layout q i → IsStated p → ⊥
+unfolding IsStated
+never_without_source layout q i p is stated = stated (ap (λ (r : Printed). r.end.kind) is)
+
+never_without_header : (layout : Layout) (q : Question) (i : ℕ) (p : Printed) → p ≡ no_header layout q i → IsStated p → ⊥
+unfolding IsStated
+never_without_header layout q i p is stated = stated (ap (λ (r : Printed). r.end.kind) is)
 
 pub stated_yes : (p : Printed) → p.end.kind ≡ Answered → IsStated p
 unfolding IsStated
@@ -74,7 +91,7 @@ pub record IsTold (Then : Answer) (q : Question) (listing : Listing) (p : Printe
   pub told : Then (layout_of listing) graph p
 
 refusal_of_none : (layout : Layout) (fault : GraphRefusal) (p : Printed) → IsStated p → IsRefusalOf layout fault p → ⊥
-refusal_of_none layout (graph.BadFile file line) p stated is = never_refused (BadFile (mark_at layout file line)) p is stated
+refusal_of_none layout (graph.BadFile file fault) p stated is = never_bad_file (path_at layout file) fault p is stated
 refusal_of_none layout graph.TooManyDirectives p stated is = never_refused TooManyDirectives p is stated
 refusal_of_none layout (graph.CannotRead file) p stated is = is
 refusal_of_none layout (graph.FileTooLong file) p stated is = is
@@ -88,16 +105,16 @@ module _ (Then : Answer) (q : Question) (listing : Listing) (p : Printed) (state
   told_graph s t s_is t_is (Err fault) is told = absurd (refusal_of_none (layout_of listing) fault p stated told)
 
   told_files : (s t : Result (List ℕ) ℕ) → sources_at (layout_of listing) q.from q.to ≡ s → headers_at (layout_of listing) q.to ≡ t
-      → WithFiles s t (λ a b r. WithGraph q listing a b (Then (layout_of listing)) r) p → IsTold Then q listing p
-  told_files (Err i) t s_is t_is is = absurd (never_refused NoSuchSource p is stated)
-  told_files (Ok s) (Err i) s_is t_is is = absurd (never_refused NoSuchHeader p is stated)
+      → WithFiles (layout_of listing) q s t (λ a b r. WithGraph q listing a b (Then (layout_of listing)) r) p → IsTold Then q listing p
+  told_files (Err i) t s_is t_is is = absurd (never_without_source (layout_of listing) q i p is stated)
+  told_files (Ok s) (Err i) s_is t_is is = absurd (never_without_header (layout_of listing) q i p is stated)
   told_files (Ok s) (Ok t) s_is t_is is = told_graph s t s_is t_is is.0 is.1 is.2
 
   pub told_of : IsAnswer Then q listing p → IsTold Then q listing p
   told_of is = told_files (sources_at (layout_of listing) q.from q.to) (headers_at (layout_of listing) q.to) refl refl is
 
 pub unhindered_told : (layout : Layout) (bs : List Blocker) (fault : Option Refusal) (Told : Printed → Type 0) (p : Printed) → IsStated p → Unhindered layout bs fault Told p → (bs ≡ []) × Told p
-unhindered_told layout (b ∷ bs) fault Told p stated is = absurd (never_refused (Blocked layout (b ∷ bs)) p is stated)
+unhindered_told layout (b ∷ bs) fault Told p stated is = absurd (never_blocked layout (b ∷ bs) p is stated)
 unhindered_told layout [] (Some r) Told p stated is = absurd (never_refused r p is stated)
 unhindered_told layout [] None Told p stated is = (refl, is)
 

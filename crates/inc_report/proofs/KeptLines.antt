@@ -5,7 +5,7 @@ use Rattle.std.specs.Prelude.{Contains, ◌⊎◌}
 use Rattle.std.specs.List.{cons_option}
 use Rattle.inc_token.specs.LineWalk.{lines_or_none}
 use Rattle.inc_token.specs.TokenLines.{Tok, TokenLine}
-use Rattle.inc_token.specs.declared.kinds.Language.{Language}
+use Rattle.inc_text.specs.declared.languages.Language.{Language}
 use Rattle.inc_token.specs.declared.lines.LexFault.{LexFault}
 use Rattle.inc_directive.specs.declared.sections.BalanceFault.{BalanceFault}
 use Rattle.inc_directive.specs.FileDirectives.{Directive, directive_of, directives_in, tree_directives, line_directives}

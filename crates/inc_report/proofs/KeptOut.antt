@@ -11,8 +11,8 @@ use Rattle.inc_text.specs.PhaseText.{phase_text}
 use Rattle.inc_token.specs.LineWalk.{lines_or_none}
 use Rattle.inc_token.specs.TokenLines.{Tok, token_lines}
 use Rattle.inc_token.specs.declared.kinds.IncludeName.{IncludeName}
-use Rattle.inc_token.specs.declared.kinds.Language.{Language}
-use Rattle.inc_directive.specs.FileDirectives.{Directive, file_directives, bad_line}
+use Rattle.inc_text.specs.declared.languages.Language.{Language}
+use Rattle.inc_directive.specs.FileDirectives.{Directive, file_directives}
 use Rattle.inc_directive.specs.Groups.{FileLine, Group, Empty, directive_line, lines_of}
 use Rattle.inc_directive.specs.LineKinds.{LineKind, Include, Other, Target, Quoted, Angled, ByName, Computed, defined_name, search_after}
 use Rattle.inc_directive.specs.declared.kinds.DirectiveKind.TheVariants.{Define}
@@ -113,7 +113,7 @@ edge_at file to line = record { from = file; to = to; line = line }
 abbrev blocker_at_line : (file line : ℕ) (kind : BlockerKind) → Blocker
 blocker_at_line file line kind = record { file = file; line = line; kind = kind }
 
-module _ (setting : Setting) (listing : Listing) (file : ℕ) (ds : List Directive) (are : file_directives setting.language (phase_text (bytes_at listing file)) ≡ Ok ds) where
+module _ (setting : Setting) (listing : Listing) (file : ℕ) (ds : List Directive) (are : file_directives setting.language (phase_text setting.language (bytes_at listing file)) ≡ Ok ds) where
   -- an include directive that is not taken as removed is one that the graph sees
   seen : (by : IncludeName) (target : Target) (line : ℕ) → Contains ds (directive_at (Include by target) line) → is_listed setting.removed file line ≡ false
       → Contains (graph_directives setting listing file) (directive_at (Include by target) line)
@@ -153,21 +153,21 @@ module _ (setting : Setting) (listing : Listing) (file : ℕ) (ds : List Directi
       named_blocker defined starts by name line there off (ap (λ (o : Option ℕ). entry_blocker defined file (name_entry o line)) is ∙ cond-true _ _ _ on)
 
   -- a name that a line of the file defines is one of the definitions of the file
-  definition_there : (l : FileLine) (name : List ℕ) (k : ℕ) → IsLineOf setting.language (lines_or_none (token_lines setting.language (phase_text (bytes_at listing file)))) l
+  definition_there : (l : FileLine) (name : List ℕ) (k : ℕ) → IsLineOf setting.language (lines_or_none (token_lines setting.language (phase_text setting.language (bytes_at listing file)))) l
       → defined_name l.kind l.tokens ≡ Some name → undefined_place setting.undefined name ≡ Some k → Contains (file_definitions setting listing file) k
   definition_there l name k line defines is =
-      subst (λ (r : Result (List Directive) declared.FileFault). Contains (elim (without (is_listed setting.removed file) r) [ Ok directives ↦ text_definitions setting (phase_text (bytes_at listing file)) | Err fault ↦ [] ]) k) (sym are)
-      (place_there setting.language setting.undefined (lines_or_none (token_lines setting.language (phase_text (bytes_at listing file)))) l name k line defines is)
+      subst (λ (r : Result (List Directive) declared.FileFault). Contains (elim (without (is_listed setting.removed file) r) [ Ok directives ↦ text_definitions setting (phase_text setting.language (bytes_at listing file)) | Err fault ↦ [] ]) k) (sym are)
+      (place_there setting.language setting.undefined (lines_or_none (token_lines setting.language (phase_text setting.language (bytes_at listing file)))) l name k line defines is)
 
 -- a file whose directives have a fault is bad
-fault_is_bad : (setting : Setting) (listing : Listing) (file : ℕ) (fault : declared.FileFault) → file_directives setting.language (phase_text (bytes_at listing file)) ≡ Err fault
-    → bad_file setting listing file ≡ Some (file, bad_line fault)
+fault_is_bad : (setting : Setting) (listing : Listing) (file : ℕ) (fault : declared.FileFault) → file_directives setting.language (phase_text setting.language (bytes_at listing file)) ≡ Err fault
+    → bad_file setting listing file ≡ Some (file, fault)
 fault_is_bad setting listing file fault is =
-    ap (λ (r : Result (List Directive) declared.FileFault). elim (without (is_listed setting.removed file) r) [ Ok directives ↦ None | Err f ↦ Some (file, bad_line f) ]) is
+    ap (λ (r : Result (List Directive) declared.FileFault). elim (without (is_listed setting.removed file) r) [ Ok directives ↦ None | Err f ↦ Some (file, f) ]) is
 
 -- the tree of a text
 abbrev tree_in : Language → (removed : ℕ → Bool) → List ℕ → Result Group FileFault
-tree_in language removed bytes = lines_or_fault (token_lines language (phase_text bytes)) >>= λ ls. tree_of_lines language (with_removed language removed ls)
+tree_in language removed bytes = lines_or_fault (token_lines language (phase_text language bytes)) >>= λ ls. tree_of_lines language (with_removed language removed ls)
 
 same_lines : (r : Result Group FileFault) (a b : Group) → r ≡ Ok a → r ≡ Ok b → lines_of b ≡ lines_of a
 same_lines r a b p q = let same : b ≡ a = cc in ap lines_of same
@@ -289,9 +289,9 @@ module _ (setting : Setting) (listing : Listing) (sources headers : List ℕ) (s
 
     -- of the token lines of the file
     abbrev IsOf : FileLine → Type 0
-    IsOf l = IsLineOf setting.language (lines_or_none (token_lines setting.language (phase_text (bytes_at listing at.file)))) l
+    IsOf l = IsLineOf setting.language (lines_or_none (token_lines setting.language (phase_text setting.language (bytes_at listing at.file)))) l
 
-    module _ (ds : List Directive) (are : file_directives setting.language (phase_text (bytes_at listing at.file)) ≡ Ok ds) where
+    module _ (ds : List Directive) (are : file_directives setting.language (phase_text setting.language (bytes_at listing at.file)) ≡ Ok ds) where
       -- an include by a name that is not removed
       absent_name : (by : IncludeName) (name : List ℕ) (line : ℕ) → Contains ds (directive_at (Include by (ByName name)) line) → is_listed setting.removed at.file line ≡ false → Absent name
       absent_name by name line there off = by_place (undefined_place setting.undefined name) refl
@@ -333,25 +333,25 @@ module _ (setting : Setting) (listing : Listing) (sources headers : List ℕ) (s
       file_line_leads : (l : FileLine) → LineStays (is_listed cut at.file) ds l × IsOf l → LineLeads at l
       file_line_leads l h =
           line_leads l.kind l.tokens (directive_line l) h.0
-          (λ by name is. begins_with setting.language by name l.tokens (sym h.1.0 ∙ is) (line_is_spelled setting.language (phase_text (bytes_at listing at.file)) l h.1))
+          (λ by name is. begins_with setting.language by name l.tokens (sym h.1.0 ∙ is) (line_is_spelled setting.language (phase_text setting.language (bytes_at listing at.file)) l h.1))
           (defines_other l h.1)
 
-    leads_by : (r : Result (List Directive) declared.FileFault) → file_directives setting.language (phase_text (bytes_at listing at.file)) ≡ r → (tree : Group) → tree_of setting.language listing cut at.file ≡ Ok tree
+    leads_by : (r : Result (List Directive) declared.FileFault) → file_directives setting.language (phase_text setting.language (bytes_at listing at.file)) ≡ r → (tree : Group) → tree_of setting.language listing cut at.file ≡ Ok tree
         → Each (LineLeads at) (lines_of tree)
     leads_by (Ok ds) are tree is =
-        let lines = token_lines setting.language (phase_text (bytes_at listing at.file)) in
+        let lines = token_lines setting.language (phase_text setting.language (bytes_at listing at.file)) in
         each_weaker (λ l. LineStays (is_listed cut at.file) ds l × IsOf l) (LineLeads at) (file_line_leads ds are) (lines_of tree)
         (each_both (LineStays (is_listed cut at.file) ds) IsOf (lines_of tree)
         (tree_stays setting.language (is_listed cut at.file) lines tree ds is are)
         (tree_lines setting.language (is_listed cut at.file) lines tree is))
     leads_by (Err fault) are tree is =
-        absurd (never_there (filter_map (bad_file setting listing) files) (at.file, bad_line fault) good
-        (given (bad_file setting listing) files at.file (at.file, bad_line fault) (inner at a low) (fault_is_bad setting listing at.file fault are)))
+        absurd (never_there (filter_map (bad_file setting listing) files) (at.file, fault) good
+        (given (bad_file setting listing) files at.file (at.file, fault) (inner at a low) (fault_is_bad setting listing at.file fault are)))
 
   lines_lead : (at : Found) → IsApart at → (tree : Group) → tree_of setting.language listing cut at.file ≡ Ok tree → Each (LineLeads at) (lines_of tree)
   lines_lead at a tree is =
       elim (cases_lt at.file (length listing.files)) [
-        | inl low ↦ leads_by at a low (file_directives setting.language (phase_text (bytes_at listing at.file))) refl tree is
+        | inl low ↦ leads_by at a low (file_directives setting.language (phase_text setting.language (bytes_at listing at.file))) refl tree is
         | inr high ↦ subst (λ ls. Each (LineLeads at) ls) (sym (no_lines setting.language listing cut at.file tree high is)) tt
       ]
 
@@ -385,7 +385,7 @@ cut_keeps_headers_out setting listing sources headers starts closure good clear 
 
 ---- of a graph that is answered
 
-no_bad : (bads : List (ℕ × ℕ)) (count : ℕ) (h g : Graph) → graph_or_bad bads count h ≡ Ok g → bads ≡ []
+no_bad : (bads : List (ℕ × declared.FileFault)) (count : ℕ) (h g : Graph) → graph_or_bad bads count h ≡ Ok g → bads ≡ []
 no_bad [] count h g is = refl
 no_bad (bad ∷ more) count h g is = cc
 

@@ -2,6 +2,7 @@ pub mod KnownParts
 pub mod MissingNameLemmas
 pub mod NameKeyLemmas
 pub mod NoteLemmas
+pub mod NearNameLemmas
 pub mod SendingLemmas
 pub mod FillingLemmas
 pub mod ScanLemmas
@@ -14,6 +15,7 @@ pub mod CutLemmas
 pub mod OneText
 pub mod PpLemmas
 pub mod PpSections
+pub mod RuleLemmas
 pub mod NameLemmas
 pub mod QuestionLemmas
 pub mod KeptLines

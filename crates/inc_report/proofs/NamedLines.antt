@@ -15,7 +15,8 @@ use Rattle.inc_token.specs.TokenLines.{Tok, TokenLine, include_name, is_hash, to
 use Rattle.inc_token.specs.declared.kinds.IncludeName.{IncludeName}
 use Rattle.inc_token.specs.declared.kinds.Kind.{Kind}
 use Rattle.inc_token.specs.declared.kinds.Kind.TheVariants.{Identifier}
-use Rattle.inc_token.specs.declared.kinds.Language.{Language}
+use Rattle.inc_text.specs.declared.languages.Language.{Language}
+use Rattle.inc_text.specs.declared.languages.Language.TheVariants.{C17, Extended, Gnu}
 use Rattle.inc_token.specs.declared.lines.LexFault.{LexFault}
 use Rattle.inc_token.proofs.Spelled.{token_lines-spelled}
 use Rattle.inc_directive.specs.Groups.{FileLine, file_lines, file_lines_from}
@@ -54,18 +55,23 @@ names_itself : (kind : Kind) (s name : List ℕ) (b : Bool) → (if b then heade
 names_itself kind s name true is = absurd (no_header_name s name _ is)
 names_itself kind s name false is = named kind s name is
 
+bracket_is_no_name : (language : Language) → is_identifier language (codes "<") ≡ false
+bracket_is_no_name C17 = refl
+bracket_is_no_name Extended = refl
+bracket_is_no_name Gnu = refl
+
 -- a token of such a spelling is no `<`
-no_bracket : (t : Tok) → t.kind ≡ Identifier → is_spelled t ≡ true → bytes_eq t.spelling (codes "<") ≡ false
-no_bracket t kind spelled =
+no_bracket : (language : Language) (t : Tok) → t.kind ≡ Identifier → is_spelled language t ≡ true → bytes_eq t.spelling (codes "<") ≡ false
+no_bracket language t kind spelled =
     elim (cases_Bool (bytes_eq t.spelling (codes "<"))) [
       | inl same ↦
           let bracket : t.spelling ≡ codes "<" = (bytes_eq-Decides t.spelling (codes "<")).0 same in
-          let never : is_spelled t ≡ false = ap (λ (k : Kind). is_spelled (record t { kind = k })) kind ∙ ap is_identifier bracket in
+          let never : is_spelled language t ≡ false = ap (λ (k : Kind). is_spelled language (record t { kind = k })) kind ∙ ap (is_identifier language) bracket ∙ bracket_is_no_name language in
           absurd (let both : true ≡ false = sym spelled ∙ never in cc)
       | inr other ↦ other
     ]
 
-first_of_three : (language : Language) (by : IncludeName) (name : List ℕ) (ts : List Tok) → directive_kind language ts ≡ Include by (ByName name) → list_all is_spelled ts ≡ true
+first_of_three : (language : Language) (by : IncludeName) (name : List ℕ) (ts : List Tok) → directive_kind language ts ≡ Include by (ByName name) → list_all (is_spelled language) ts ≡ true
     → BeginsWith name (drop 1 ts)
 first_of_three language by name [] is spelled = cc
 first_of_three language by name (u ∷ []) is spelled =
@@ -73,28 +79,28 @@ first_of_three language by name (u ∷ []) is spelled =
 first_of_three language by name (u ∷ v ∷ vs) is spelled =
     let target = includes by name (include_name language u.spelling) (target_of (first_operand (v ∷ vs))) (other_kind language u.spelling) is in
     let itself = names_itself v.kind v.spelling name (is_header_kind v.kind) target in
-    let spelled_v : is_spelled v ≡ true = (and_parts (is_spelled v) (list_all is_spelled vs) (and_parts (is_spelled u) (list_all is_spelled (v ∷ vs)) spelled).1).0 in
+    let spelled_v : is_spelled language v ≡ true = (and_parts (is_spelled language v) (list_all (is_spelled language) vs) (and_parts (is_spelled language u) (list_all (is_spelled language) (v ∷ vs)) spelled).1).0 in
     record {
       first = v;
       more = vs;
       are = refl;
       kind = itself.0;
       spelling = itself.1;
-      bracket = ap (λ (n : List ℕ). bytes_eq n (codes "<")) (sym itself.1) ∙ no_bracket v itself.0 spelled_v;
+      bracket = ap (λ (n : List ℕ). bytes_eq n (codes "<")) (sym itself.1) ∙ no_bracket language v itself.0 spelled_v;
     }
 
 -- the tokens after its name begin with the name that it includes by
-pub begins_with : (language : Language) (by : IncludeName) (name : List ℕ) (ts : List Tok) → line_kind language ts ≡ Include by (ByName name) → list_all is_spelled ts ≡ true
+pub begins_with : (language : Language) (by : IncludeName) (name : List ℕ) (ts : List Tok) → line_kind language ts ≡ Include by (ByName name) → list_all (is_spelled language) ts ≡ true
     → BeginsWith name (drop 2 ts)
 begins_with language by name [] is spelled = cc
 begins_with language by name (t ∷ ts) is spelled =
-    first_of_three language by name ts (after_hash by name language ts (is_hash t.spelling) is) (and_parts (is_spelled t) (list_all is_spelled ts) spelled).1
+    first_of_three language by name ts (after_hash by name language ts (is_hash t.spelling) is) (and_parts (is_spelled language t) (list_all (is_spelled language) ts) spelled).1
 
 ---- the tokens of a file
 
-spelled_in : (r : Result (List TokenLine) LexFault) → IfOk r (λ ls. IsTrue (list_all has_spellings ls)) → list_all has_spellings (lines_or_none r) ≡ true
-spelled_in (Ok ls) h = h
-spelled_in (Err fault) h = refl
+spelled_in : (language : Language) (r : Result (List TokenLine) LexFault) → IfOk r (λ ls. IsTrue (list_all (has_spellings language) ls)) → list_all (has_spellings language) (lines_or_none r) ≡ true
+spelled_in language (Ok ls) h = h
+spelled_in language (Err fault) h = refl
 
 all_at : {X : Type 0} (p : X → Bool) (xs : List X) (k : ℕ) (d : X) → list_all p xs ≡ true → k < length xs → p (get_or xs k d) ≡ true
 all_at p [] k d h low = absurd (omega (arith, low))
@@ -120,13 +126,13 @@ pub any_there : {X : Type 0} (p : X → Bool) (xs : List X) (x : X) → Contains
 any_there p xs x c h = any_at p xs c.0 x c.1 (ap p c.2 ∙ h)
 
 -- each token of a line that is one of the file has the class that it is said to have
-pub line_is_spelled : (language : Language) (cells : List Cell) (l : FileLine) → IsLineOf language (lines_or_none (token_lines language cells)) l → list_all is_spelled l.tokens ≡ true
+pub line_is_spelled : (language : Language) (cells : List Cell) (l : FileLine) → IsLineOf language (lines_or_none (token_lines language cells)) l → list_all (is_spelled language) l.tokens ≡ true
 line_is_spelled language cells l is =
     elim is.1 [
-      | inl none ↦ ap (list_all is_spelled) none
+      | inl none ↦ ap (list_all (is_spelled language)) none
       | inr there ↦
-          ap (list_all is_spelled) (sym there.2)
-          ∙ all_there has_spellings (lines_or_none (token_lines language cells)) there.0 (spelled_in (token_lines language cells) (token_lines-spelled language cells)) there.1
+          ap (list_all (is_spelled language)) (sym there.2)
+          ∙ all_there (has_spellings language) (lines_or_none (token_lines language cells)) there.0 (spelled_in language (token_lines language cells) (token_lines-spelled language cells)) there.1
     ]
 
 ---- names that no build defines

@@ -22,7 +22,7 @@ one_why_of layout g p q h k =
     ∙ ap (λ (cs : List (List ℕ)). answered_of (why_notes layout g k.0) (why_text layout g k.0 cs)) chains ∙ sym k.4
 
 one_refusal : (layout : Layout) (fault : GraphRefusal) (p q : Printed) → IsRefusalOf layout fault p → IsRefusalOf layout fault q → p ≡ q
-one_refusal layout (graph.BadFile file line) p q h k = h ∙ sym k
+one_refusal layout (graph.BadFile file fault) p q h k = h ∙ sym k
 one_refusal layout graph.TooManyDirectives p q h k = h ∙ sym k
 one_refusal layout (graph.CannotRead file) p q h k = absurd h
 one_refusal layout (graph.FileTooLong file) p q h k = absurd h
@@ -41,15 +41,15 @@ one_with_graph q listing sources headers Then one a b h k =
     one_of_graph (layout_of listing) Then one k.0 a b (subst (λ (answer : Result Graph GraphRefusal). OfGraph (layout_of listing) answer Then a) same h.2) k.2
 
 -- where sources and headers leave one text, so do they and the refusals in their place
-pub one_with_files : (sources headers : Result (List ℕ) ℕ) (Then : List ℕ → List ℕ → Printed → Type 0) → ((s t : List ℕ) (p q : Printed) → Then s t p → Then s t q → p ≡ q)
-    → (p q : Printed) → WithFiles sources headers Then p → WithFiles sources headers Then q → p ≡ q
-one_with_files (Err i) headers Then one p q h k = h ∙ sym k
-one_with_files (Ok s) (Err i) Then one p q h k = h ∙ sym k
-one_with_files (Ok s) (Ok t) Then one p q h k = one s t p q h k
+pub one_with_files : (layout : Layout) (q : Question) (sources headers : Result (List ℕ) ℕ) (Then : List ℕ → List ℕ → Printed → Type 0) → ((s t : List ℕ) (p q : Printed) → Then s t p → Then s t q → p ≡ q)
+    → (a b : Printed) → WithFiles layout q sources headers Then a → WithFiles layout q sources headers Then b → a ≡ b
+one_with_files layout q (Err i) headers Then one a b h k = h ∙ sym k
+one_with_files layout q (Ok s) (Err i) Then one a b h k = h ∙ sym k
+one_with_files layout q (Ok s) (Ok t) Then one a b h k = one s t a b h k
 
 pub one_why : (q : Question) (listing : Listing) (a b : Printed) → IsWhy q listing a → IsWhy q listing b → a ≡ b
 one_why q listing a b h k =
-    one_with_files (sources_at (layout_of listing) q.from q.to) (headers_at (layout_of listing) q.to)
+    one_with_files (layout_of listing) q (sources_at (layout_of listing) q.from q.to) (headers_at (layout_of listing) q.to)
     (λ s t r. WithGraph q listing s t (IsWhyOf (layout_of listing)) r)
     (λ s t p2 q2 h2 k2. one_with_graph q listing s t (IsWhyOf (layout_of listing))
     (λ g p3 q3 h3 k3. one_why_of (layout_of listing) g p3 q3 h3 k3) p2 q2 h2 k2)
@@ -64,7 +64,7 @@ one_who_of with_chains layout g p q h k =
 
 pub one_who : (with_chains : Bool) (q : Question) (listing : Listing) (a b : Printed) → IsWho with_chains q listing a → IsWho with_chains q listing b → a ≡ b
 one_who with_chains q listing a b h k =
-    one_with_files (sources_at (layout_of listing) q.from q.to) (headers_at (layout_of listing) q.to)
+    one_with_files (layout_of listing) q (sources_at (layout_of listing) q.from q.to) (headers_at (layout_of listing) q.to)
     (λ s t r. WithGraph q listing s t (IsWhoOf with_chains (layout_of listing)) r)
     (λ s t p2 q2 h2 k2. one_with_graph q listing s t (IsWhoOf with_chains (layout_of listing))
     (λ g p3 q3 h3 k3. one_who_of with_chains (layout_of listing) g p3 q3 h3 k3) p2 q2 h2 k2)
@@ -72,7 +72,7 @@ one_who with_chains q listing a b h k =
 
 pub one_edges : (q : Question) (listing : Listing) (a b : Printed) → IsGraph q listing a → IsGraph q listing b → a ≡ b
 one_edges q listing a b h k =
-    one_with_files (sources_at (layout_of listing) q.from q.to) (headers_at (layout_of listing) q.to)
+    one_with_files (layout_of listing) q (sources_at (layout_of listing) q.from q.to) (headers_at (layout_of listing) q.to)
     (λ s t r. WithGraph q listing s t (IsGraphOf (layout_of listing)) r)
     (λ s t p2 q2 h2 k2. one_with_graph q listing s t (IsGraphOf (layout_of listing)) (λ g p3 q3 h3 k3. h3 ∙ sym k3) p2 q2 h2 k2)
     a b h k

@@ -1,6 +1,9 @@
 -- What is printed of a preprocessing, by its outcome, and where there is none.
-use Rattle.std.proofs.Common.{◌≡◌, ℕ, Bool, List, [], ◌++◌, Option, Some, None, Result, Ok, Err, refl, sym, subst, ap, ◌∙◌, arith}
-use Rattle.std.specs.Prelude.{Contains}
+use Rattle.std.proofs.Common.{◌≡◌, ℕ, Bool, true, false, List, [], ◌++◌, Option, Some, None, Result, Ok, Err, refl, sym, subst, ap, ◌∙◌, arith}
+use Rattle.std.specs.Prelude.{Contains, codes, if◌then◌else◌, is_some}
+use Rattle.std.specs.Option.{option_map_or}
+use Rattle.inc_check.specs.Texts.{line_text}
+use Rattle.inc_report.specs.SourceEndings.{outcome_ending}
 use Rattle.std.proofs.lemmas.List.{append-nil}
 use Rattle.std.proofs.lemmas.List.Elements.{All-nil}
 use Rattle.inc_text.specs.declared.devices.ReadFault.{ReadFault}
@@ -20,12 +23,13 @@ use Rattle.inc_pp.specs.Shared.{AreShared, IsSharedOutcome}
 use Rattle.inc_pp.specs.Walks.{Held}
 use Rattle.inc_report.specs.declared.pp.NoOutcome.TheVariants.{Refused}
 use Rattle.inc_report.specs.NoOutcomes.{IsRefusedPp, stop_line, stop_end}
-use Rattle.inc_report.specs.PpSteps.{Common, IsSection, FailsIn, under}
+use Rattle.inc_report.specs.PpSteps.{Common, IsSection, FailsIn}
 use Rattle.inc_report.specs.PpText.{define_number, outcome_printed, stop_text}
-use Rattle.inc_report.specs.PpTexts.{Section, section, section_at, section_of, title}
+use Rattle.inc_report.specs.PpTexts.{Section, if_wanted, refused_section, section, section_at, section_of, shown}
 use Rattle.inc_report.specs.Printed.{Printed, answered, end_of, negative}
 use Rattle.inc_report.specs.NamedFiles.{file_at}
 use Rattle.inc_report.specs.Refusals.{NoSuchSource, BadDefinition, refusal}
+use Rattle.inc_report.specs.declared.pp.Wanted.{Wanted}
 
 ---- the text of an outcome
 
@@ -45,6 +49,20 @@ end_by layout tokens (Some s) = refl
 pub outcome_end : (layout : Layout) (o : Outcome) → end_of [] (stop_end o.stop) ≡ (outcome_printed layout o).end
 outcome_end layout o = end_by layout (printed o.tokens) o.stop
 
+-- of a refusal no rule is told
+pub unruled : (b : Bool) → [] ≡ if_wanted b []
+unruled true = refl
+unruled false = refl
+
+-- what is sent of where an outcome stopped is how it ended, if it stopped
+pub stop_told : (layout : Layout) (o : Outcome) (stopped : Bool) (sent : List ℕ) → stopped ≡ is_some o.stop → sent ≡ stop_line layout o.stop
+    → (if stopped then sent else line_text (codes "answered")) ≡ outcome_ending layout o
+stop_told layout o stopped sent is said = rw (is, said) (by_stop o.stop)
+  where
+    by_stop : (s : Option Stop) → (if is_some s then stop_line layout s else line_text (codes "answered")) ≡ option_map_or (stop_text layout) s (line_text (codes "answered"))
+    by_stop None = refl
+    by_stop (Some s) = refl
+
 ---- the section of one source
 
 -- nothing was read for it
@@ -62,42 +80,42 @@ module _ (c : Common) (source : List ℕ) (listing : Listing) (laid : layout_of 
       ∙ ap (λ (l : Layout). section_of l (preprocessing listing file c.words (sourced_settings source c.settings) c.without)) laid
       ∙ ap (λ (r : Result Outcome (ℕ × DefineFault)). section_of c.layout r) is
 
-module _ {S : Type 0} (gives : S → ℕ → Result (List ℕ) ReadFault → S → Type 0) (old new : S) (c : Common) (before after : Held) (titles : Bool) (source : List ℕ) where
+module _ {S : Type 0} (gives : S → ℕ → Result (List ℕ) ReadFault → S → Type 0) (old new : S) (c : Common) (before after : Held) (wanted : Wanted) (source : List ℕ) where
   -- where nothing was read
   section_unread : (s : Section) → s.reads ≡ [] → new ≡ old → after ≡ before
       → ((listing : Listing) → layout_of listing ≡ c.layout → section listing c.words c.settings c.without source ≡ s)
-      → IsSection gives old new c before after titles source (under (title titles source) s.printed)
+      → IsSection gives old new c before after wanted source (shown wanted source s)
   section_unread s none still held is = λ first earlier shared. record {
     given = earlier;
     shared = rw (still, held) shared;
-    is = λ listing laid agrees. ap (λ (x : Section). under (title titles source) x.printed) (sym (is listing laid));
+    is = λ listing laid agrees. ap (λ (x : Section). shown wanted source x) (sym (is listing laid));
     read = λ listing laid agrees.
         subst (λ (rs : List ℕ). IsOfReadsAfter earlier rs earlier) (sym none ∙ ap (λ (x : Section). x.reads) (sym (is listing laid))) (read-none earlier shared.kept.once);
   }
 
-  pub no_source : (p q : Printed) → file_at c.layout source ≡ None → new ≡ old → after ≡ before → q ≡ refusal NoSuchSource → p ≡ under (title titles source) q
-      → IsSection gives old new c before after titles source p
+  pub no_source : (p q : Printed) → file_at c.layout source ≡ None → new ≡ old → after ≡ before → q ≡ refusal NoSuchSource → p ≡ shown wanted source (refused_section q)
+      → IsSection gives old new c before after wanted source p
   no_source p q none still held says is =
-      subst (λ (x : Printed). IsSection gives old new c before after titles source x) (sym (is ∙ ap (λ (x : Printed). under (title titles source) x) says))
-      (section_unread (record { printed = refusal NoSuchSource; reads = [] }) refl still held (λ listing laid. found c source listing laid None none))
+      subst (λ (x : Printed). IsSection gives old new c before after wanted source x) (sym (is ∙ ap (λ (x : Printed). shown wanted source (refused_section x)) says))
+      (section_unread (refused_section (refusal NoSuchSource)) refl still held (λ listing laid. found c source listing laid None none))
 
   -- a refusal that is printed is that of a word
   pub of_refusal : (p q : Printed) (file : ℕ) (fault : PpRefusal) (settings : Settings) → settings ≡ sourced_settings source c.settings → file_at c.layout source ≡ Some file
       → IfBadDefinition fault (λ index why. (new ≡ old) × (after ≡ before) × ((listing : Listing) → preprocessing listing file c.words settings c.without ≡ Err (index, why)))
-      → IsRefusedPp (Refused fault) q → p ≡ under (title titles source) q → IsSection gives old new c before after titles source p
+      → IsRefusedPp (Refused fault) q → p ≡ shown wanted source (refused_section q) → IsSection gives old new c before after wanted source p
   of_refusal p q file (pp.BadDefinition index why) settings named there bad says is =
-      subst (λ (x : Printed). IsSection gives old new c before after titles source x) (sym (is ∙ ap (λ (x : Printed). under (title titles source) x) says))
-      (section_unread (record { printed = refusal (BadDefinition index (define_number why)); reads = [] }) refl bad.0 bad.1
+      subst (λ (x : Printed). IsSection gives old new c before after wanted source x) (sym (is ∙ ap (λ (x : Printed). shown wanted source (refused_section x)) says))
+      (section_unread (refused_section (refusal (BadDefinition index (define_number why)))) refl bad.0 bad.1
       (λ listing laid. found_answer c source listing laid file (Err (index, why)) there
       (ap (λ (st : Settings). preprocessing listing file c.words st c.without) (sym named) ∙ bad.2 listing)))
   of_refusal p q file (pp.CannotRead other) settings named there bad says is = absurd says
   of_refusal p q file (pp.FileTooLong other) settings named there bad says is = absurd says
   of_refusal p q file pp.NoMemory settings named there bad says is = absurd says
 
-  pub of_outcome : (p : Printed) (file : ℕ) (outcome : Outcome) (settings : Settings) → settings ≡ sourced_settings source c.settings → file_at c.layout source ≡ Some file → p ≡ under (title titles source) (outcome_printed c.layout outcome)
+  pub of_outcome : (p : Printed) (file : ℕ) (outcome : Outcome) (settings : Settings) → settings ≡ sourced_settings source c.settings → file_at c.layout source ≡ Some file → p ≡ shown wanted source (section_of c.layout (Ok outcome))
       → ((first : S) (earlier : List Given) → AreShared gives first old c.layout settings.language c.without before earlier
       → IsSharedOutcome gives first new c.layout earlier file c.words settings c.without after outcome)
-      → IsSection gives old new c before after titles source p
+      → IsSection gives old new c before after wanted source p
   of_outcome p file outcome settings named there is made = λ first earlier shared.
       let m = subst (λ (st : Settings). (x : S) (given : List Given) → AreShared gives x old c.layout st.language c.without before given
       → IsSharedOutcome gives x new c.layout given file c.words st c.without after outcome) named made first earlier shared in
@@ -106,7 +124,7 @@ module _ {S : Type 0} (gives : S → ℕ → Result (List ℕ) ReadFault → S �
       record {
         given = m.given;
         shared = m.shared;
-        is = λ listing laid agrees. is ∙ ap (λ (x : Section). under (title titles source) x.printed) (sym (same listing laid agrees));
+        is = λ listing laid agrees. is ∙ ap (λ (x : Section). shown wanted source x) (sym (same listing laid agrees));
         read = λ listing laid agrees.
             subst (λ (rs : List ℕ). IsOfReadsAfter earlier rs m.given) (ap (λ (x : Section). x.reads) (sym (same listing laid agrees))) (m.every listing laid agrees).read;
       }

@@ -13,17 +13,16 @@ use Rattle.inc_graph.specs.declared.building.GraphRefusal.{GraphRefusal}
 use Rattle.inc_graph.proofs.ClosureWalks.{answer_is}
 use Rattle.inc_report.specs.Printed.{Printed}
 use Rattle.inc_report.specs.NamedFiles.{headers_at, sources_at}
-use Rattle.inc_report.specs.Questions.{WithFiles, OfGraph, Answer, IsAnswer, IsAnswerBy, IsNoEnds, IsRefusalOf, IsStopped}
-use Rattle.inc_report.specs.Refusals.{NoSuchSource, NoSuchHeader, refusal}
+use Rattle.inc_report.specs.Questions.{WithFiles, no_header, no_source, OfGraph, Answer, IsAnswer, IsAnswerBy, IsNoEnds, IsRefusalOf, IsStopped}
 use Rattle.inc_report.specs.declared.questions.NoGraph.{NoGraph}
 use Rattle.inc_report.specs.declared.questions.NoGraph.TheVariants as no_graph
 use Rattle.inc_report.proofs.WritingLemmas.{nothing_given}
 
-with_files_all : (sources headers : Result (List ℕ) ℕ) (A B : List ℕ → List ℕ → Printed → Type 0) (p : Printed) → ((s t : List ℕ) → A s t p → B s t p)
-    → WithFiles sources headers A p → WithFiles sources headers B p
-with_files_all (Err i) headers A B p step is = is
-with_files_all (Ok s) (Err i) A B p step is = is
-with_files_all (Ok s) (Ok t) A B p step is = step s t is
+with_files_all : (layout : Layout) (q : Question) (sources headers : Result (List ℕ) ℕ) (A B : List ℕ → List ℕ → Printed → Type 0) (p : Printed) → ((s t : List ℕ) → A s t p → B s t p)
+    → WithFiles layout q sources headers A p → WithFiles layout q sources headers B p
+with_files_all layout q (Err i) headers A B p step is = is
+with_files_all layout q (Ok s) (Err i) A B p step is = is
+with_files_all layout q (Ok s) (Ok t) A B p step is = step s t is
 
 of_graph_all : (layout : Layout) (answer : Result Graph GraphRefusal) (A B : Graph → Printed → Type 0) (p : Printed) → ((g : Graph) → A g p → B g p)
     → OfGraph layout answer A p → OfGraph layout answer B p
@@ -33,7 +32,7 @@ of_graph_all layout (Err fault) A B p step is = is
 pub answer_all : (A B : Answer) (q : Question) (listing : Listing) (p : Printed)
     → ((g : Graph) → A (layout_of listing) g p → B (layout_of listing) g p) → IsAnswer A q listing p → IsAnswer B q listing p
 answer_all A B q listing p step is =
-    with_files_all (sources_at (layout_of listing) q.from q.to) (headers_at (layout_of listing) q.to) _ _ p
+    with_files_all (layout_of listing) q (sources_at (layout_of listing) q.from q.to) (headers_at (layout_of listing) q.to) _ _ p
     (λ s t told. (told.0, told.1, of_graph_all (layout_of listing) told.0 (A (layout_of listing)) (B (layout_of listing)) p step told.2)) is
 
 module _ {S : Type 0} (gives : S → ℕ → Result (List ℕ) ReadFault → S → Type 0) (old new : S) (layout : Layout) (Then : Answer) (q : Question) (p : Printed) where
@@ -61,11 +60,11 @@ module _ (q : Question) (layout : Layout) (p : Printed) (listing : Listing) (lai
   found_headers : (r : Result (List ℕ) ℕ) → headers_at layout q.to ≡ r → headers_at (layout_of listing) q.to ≡ r
   found_headers r is = ap (λ (l : Layout). headers_at l q.to) laid ∙ is
 
-  pub no_source : (i : ℕ) → sources_at layout q.from q.to ≡ Err i → p ≡ refusal NoSuchSource → IsAnswerBy Then q p [] listing
-  no_source i none is = rw (found (Err i) none) (is, refl)
+  pub without_source : (i : ℕ) → sources_at layout q.from q.to ≡ Err i → p ≡ no_source layout q i → IsAnswerBy Then q p [] listing
+  without_source i none is = rw (found (Err i) none) (is ∙ ap (λ (l : Layout). no_source l q i) (sym laid), refl)
 
-  pub no_header : (s : List ℕ) (i : ℕ) → sources_at layout q.from q.to ≡ Ok s → headers_at layout q.to ≡ Err i → p ≡ refusal NoSuchHeader → IsAnswerBy Then q p [] listing
-  no_header s i there none is = rw (found (Ok s) there, found_headers (Err i) none) (is, refl)
+  pub without_header : (s : List ℕ) (i : ℕ) → sources_at layout q.from q.to ≡ Ok s → headers_at layout q.to ≡ Err i → p ≡ no_header layout q i → IsAnswerBy Then q p [] listing
+  without_header s i there none is = rw (found (Ok s) there, found_headers (Err i) none) (is ∙ ap (λ (l : Layout). no_header l q i) (sym laid), refl)
 
   pub of_files : (given : List Given) (s t : List ℕ) (answer : Result Graph GraphRefusal) → sources_at layout q.from q.to ≡ Ok s → headers_at layout q.to ≡ Ok t
       → IsGraphAnswer (setting_in layout q) listing s t answer → OfGraph layout answer (Then layout) p → IsOfClosure (setting_in layout q) s t given listing
@@ -82,11 +81,11 @@ module _ (q : Question) (layout : Layout) (p : Printed) (listing : Listing) (lai
 
 -- where a path names no file, no file is read
 pub stopped_early : {S : Type 0} (gives : S → ℕ → Result (List ℕ) ReadFault → S → Type 0) (s : S) (layout : Layout) (q : Question) (cause : NoGraph) (p : Printed) (Then : Answer)
-    → IsNoEnds layout q cause → IsStopped layout cause p → HoldsOfGiven gives s s layout (IsAnswerBy Then q p)
+    → IsNoEnds layout q cause → IsStopped layout q cause p → HoldsOfGiven gives s s layout (IsAnswerBy Then q p)
 stopped_early gives s layout q (no_graph.NoSource i) p Then none is =
-    nothing_given gives s layout (IsAnswerBy Then q p) (λ listing laid. no_source q layout p listing laid Then i none is)
+    nothing_given gives s layout (IsAnswerBy Then q p) (λ listing laid. without_source q layout p listing laid Then i none is)
 stopped_early gives s layout q (no_graph.NoHeader i) p Then none is =
-    nothing_given gives s layout (IsAnswerBy Then q p) (λ listing laid. no_header q layout p listing laid Then none.0.0 i none.0.1 none.1 is)
+    nothing_given gives s layout (IsAnswerBy Then q p) (λ listing laid. without_header q layout p listing laid Then none.0.0 i none.0.1 none.1 is)
 stopped_early gives s layout q (no_graph.Refused fault) p Then memory is = absurd (subst (λ (f : GraphRefusal). IsRefusalOf layout f p) memory is)
 
 ---- the graph has the files of its project

@@ -121,7 +121,7 @@ nothing_given gives s layout P holds = record {
 
 -- a refusal that is printed says what the files hold
 pub is_of_files : (layout : Layout) (fault : GraphRefusal) (p : Printed) → IsRefusalOf layout fault p → IsOfFiles fault
-is_of_files layout (graph.BadFile file line) p is = tt
+is_of_files layout (graph.BadFile file fault) p is = tt
 is_of_files layout graph.TooManyDirectives p is = tt
 is_of_files layout (graph.CannotRead file) p is = absurd is
 is_of_files layout (graph.FileTooLong file) p is = absurd is

@@ -1,6 +1,6 @@
 -- A change, as it is found.
 use Rattle.std.specs.Prelude.{ℕ, List}
-use Rattle.inc_token.specs.declared.kinds.Language.{Language}
+use Rattle.inc_text.specs.declared.languages.Language.{Language}
 use Rattle.inc_directive.specs.BlankedSources.{blanked_source}
 use Rattle.inc_directive.specs.Removal.{is_among}
 use Rattle.inc_lookup.specs.Projects.{Layout, path_at}

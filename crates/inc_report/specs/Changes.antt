@@ -1,7 +1,7 @@
 -- The files that change where directives are blanked.
 use Rattle.std.specs.Prelude.{ℕ, ◌+◌, ◌≤◌, ◌==◌, Bool, List, [], ◌∷◌, if◌then◌else◌, map, bytes_eq, ⊤}
 use Rattle.std.specs.List.{list_any}
-use Rattle.inc_token.specs.declared.kinds.Language.{Language}
+use Rattle.inc_text.specs.declared.languages.Language.{Language}
 use Rattle.inc_directive.specs.BlankedSources.{blanked_source}
 use Rattle.inc_lookup.specs.declared.projects.DirectiveId.{DirectiveId}
 use Rattle.inc_lookup.specs.DirectiveLists.{is_listed}

@@ -1,5 +1,6 @@
 -- The text that `cut` prints, and what comes before the answers about cuts: the refusals of blockers, of marks and of costs.
 use Rattle.std.specs.Prelude.{◌≡◌, ◌≢◌, ◌⊎◌, ℕ, List, [], ◌∷◌, Option, Some, None, option_map, option_and_then, slice_get, length, codes}
+use Rattle.inc_report.specs.BlockedReasons.{blocked_reasons}
 use Rattle.inc_report.specs.MissingNotes.{empty_notes}
 use Rattle.inc_report.specs.Terms.{Question, Limits}
 use Rattle.inc_lookup.specs.Given.{Given}
@@ -18,7 +19,7 @@ use Rattle.inc_report.specs.declared.limits.Hindrance.TheVariants as hindrance
 use Rattle.inc_report.specs.MarkTexts.{list_text}
 use Rattle.inc_report.specs.Printed.{Printed, answered_of, negative_of}
 use Rattle.inc_report.specs.Questions.{Answer, IsAnswerBy}
-use Rattle.inc_report.specs.Refusals.{Refusal, Blocked, NoSuchDirective, NoSuchCost, CostTwice, refusal}
+use Rattle.inc_report.specs.Refusals.{Refusal, Blocked, NoSuchDirective, NoSuchCost, CostTwice, refusal, refusal_for}
 
 ---- what hinders an answer about cuts
 
@@ -33,9 +34,13 @@ refusal_of_fault marks costs fixed.NoMemory = None
 abbrev pub marks_refusal : Layout → Graph → List Mark → List Cost → Option Refusal
 marks_refusal layout g marks costs = option_and_then (refusal_of_fault marks costs) (marks_fault layout g marks costs)
 
+-- the refusal by all of these, and beside it what they are and how to go on
+abbrev pub blocked : Layout → List Blocker → Printed
+blocked layout bs = refusal_for (blocked_reasons layout bs) (Blocked layout bs)
+
 -- what is printed where no blocker is, and marks and costs are not refused, or the refusal in its place
 abbrev pub Unhindered : Layout → List Blocker → Option Refusal → (Printed → Type 0) → Printed → Type 0
-Unhindered layout (b ∷ bs) fault Then p = p ≡ refusal (Blocked layout (b ∷ bs))
+Unhindered layout (b ∷ bs) fault Then p = p ≡ blocked layout (b ∷ bs)
 Unhindered layout [] (Some r) Then p = p ≡ refusal r
 Unhindered layout [] None Then p = Then p
 

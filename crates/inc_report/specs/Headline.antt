@@ -1,7 +1,7 @@
 -- What a printed cut promises of every preprocessing.
 use Rattle.std.specs.Prelude.{◌≡◌, ℕ, not, List, ◌++◌, Ok, IfOk, IsTrue, codes}
 use Rattle.std.specs.List.{list_all, list_any}
-use Rattle.inc_token.specs.declared.kinds.Language.{Language}
+use Rattle.inc_text.specs.declared.languages.Language.{Language}
 use Rattle.inc_lookup.specs.declared.projects.DirectiveId.{DirectiveId}
 use Rattle.inc_lookup.specs.Projects.{Listing, layout_of}
 use Rattle.inc_graph.specs.Members.{is_member}

@@ -9,9 +9,13 @@ pub record Printed : Type 0 where
   pub text : List ℕ
   pub end : End
 
--- with these notes
+-- with these notes, and no other text
 abbrev pub end_of : (notes : List ℕ) → EndKind → End
-end_of notes kind = record { kind = kind; notes = notes }
+end_of notes kind = record { kind = kind; notes = notes; rules = []; endings = []; stops = [] }
+
+-- the same with these texts: rules for make, how sources ended, and why those stopped that did
+abbrev pub with_texts : (rules endings stops : List ℕ) → End → End
+with_texts rules endings stops e = record { kind = e.kind; notes = e.notes; rules = rules; endings = endings; stops = stops }
 
 -- an answer with notes
 abbrev pub answered_of : (notes : List ℕ) → List ℕ → Printed
@@ -27,5 +31,9 @@ answered text = answered_of [] text
 abbrev pub negative : List ℕ → Printed
 negative text = negative_of [] text
 
+-- a refusal beside which a reason stands
+abbrev pub refused_for : (reason : List ℕ) → List ℕ → Printed
+refused_for reason text = record { text = text; end = end_of reason Refused }
+
 abbrev pub refused : List ℕ → Printed
-refused text = record { text = text; end = end_of [] Refused }
+refused text = refused_for [] text

@@ -1,29 +1,38 @@
 -- What the calls print that are asked about sources and headers of a project: the first refusal that holds, else the answer.
-use Rattle.std.specs.Prelude.{◌≡◌, ℕ, List, [], Option, None, Result, Ok, Err}
+use Rattle.std.specs.Prelude.{◌≡◌, ℕ, List, [], Option, None, Result, Ok, Err, codes, unwrap_or}
 use Rattle.inc_text.specs.declared.devices.ReadFault.{ReadFault}
 use Rattle.inc_report.specs.Terms.{Question, setting_in}
 use Rattle.inc_lookup.specs.Given.{Given, FailsAfter}
-use Rattle.inc_lookup.specs.Projects.{Layout, Listing, layout_of}
+use Rattle.inc_lookup.specs.Projects.{Layout, Listing, layout_of, path_at}
 use Rattle.inc_graph.specs.IncludeGraph.{Graph, IsGraphAnswer, IsRefusalWithin}
 use Rattle.inc_graph.specs.declared.building.GraphRefusal.{GraphRefusal}
 use Rattle.inc_graph.specs.declared.building.GraphRefusal.TheVariants as graph
 use Rattle.inc_graph.specs.ReadFiles.{IsOfClosure, IsReachedAfter, read_fault_of}
 use Rattle.inc_report.specs.declared.questions.NoGraph.{NoGraph}
 use Rattle.inc_report.specs.declared.questions.NoGraph.TheVariants as no_graph
-use Rattle.inc_report.specs.MarkTexts.{mark_at}
+use Rattle.inc_report.specs.FaultReasons.{bad_file}
 use Rattle.inc_report.specs.NamedFiles.{headers_at, sources_at}
+use Rattle.inc_report.specs.NearNames.{unnamed_at}
 use Rattle.inc_report.specs.Printed.{Printed}
-use Rattle.inc_report.specs.Refusals.{NoSuchSource, NoSuchHeader, BadFile, TooManyDirectives, refusal}
+use Rattle.inc_report.specs.Refusals.{NoSuchSource, NoSuchHeader, TooManyDirectives, refusal, refusal_for}
+
+-- what is printed where the path of a source at this place is the first that names no file, and where that of a header is: beside it stands
+-- a line on the path
+abbrev pub no_source : Layout → Question → ℕ → Printed
+no_source layout q i = refusal_for (unnamed_at (codes "source") layout.paths q.from i) NoSuchSource
+
+abbrev pub no_header : Layout → Question → ℕ → Printed
+no_header layout q i = refusal_for (unnamed_at (codes "header") layout.paths (unwrap_or q.to []) i) NoSuchHeader
 
 -- what is printed of sources and headers, where each path names a file
-abbrev pub WithFiles : (sources headers : Result (List ℕ) ℕ) → (List ℕ → List ℕ → Printed → Type 0) → Printed → Type 0
-WithFiles (Err i) headers Then p = p ≡ refusal NoSuchSource
-WithFiles (Ok ss) (Err i) Then p = p ≡ refusal NoSuchHeader
-WithFiles (Ok ss) (Ok ts) Then p = Then ss ts p
+abbrev pub WithFiles : Layout → Question → (sources headers : Result (List ℕ) ℕ) → (List ℕ → List ℕ → Printed → Type 0) → Printed → Type 0
+WithFiles layout q (Err i) headers Then p = p ≡ no_source layout q i
+WithFiles layout q (Ok ss) (Err i) Then p = p ≡ no_header layout q i
+WithFiles layout q (Ok ss) (Ok ts) Then p = Then ss ts p
 
 -- what is printed of the refusal in place of a graph; where a file is not read, or memory runs out, nothing is
 abbrev pub IsRefusalOf : Layout → GraphRefusal → Printed → Type 0
-IsRefusalOf layout (graph.BadFile file line) p = p ≡ refusal (BadFile (mark_at layout file line))
+IsRefusalOf layout (graph.BadFile file fault) p = p ≡ bad_file (path_at layout file) (path_at layout file) fault
 IsRefusalOf layout graph.TooManyDirectives p = p ≡ refusal TooManyDirectives
 IsRefusalOf layout _ p = ⊥
 
@@ -45,7 +54,7 @@ Answer = Layout → Graph → Printed → Type 0
 -- what is printed of a question
 abbrev pub IsAnswer : Answer → Question → Listing → Printed → Type 0
 IsAnswer Then q listing p =
-    WithFiles (sources_at (layout_of listing) q.from q.to) (headers_at (layout_of listing) q.to)
+    WithFiles (layout_of listing) q (sources_at (layout_of listing) q.from q.to) (headers_at (layout_of listing) q.to)
     (λ ss ts r. WithGraph q listing ss ts (Then (layout_of listing)) r) p
 
 -- the files that are read for the graph of sources and headers: none where a path names no file
@@ -69,10 +78,10 @@ FailsAt gives old new layout q r =
 ---- why a question has no graph
 
 -- what is printed then
-abbrev pub IsStopped : Layout → NoGraph → Printed → Type 0
-IsStopped layout (no_graph.NoSource i) p = p ≡ refusal NoSuchSource
-IsStopped layout (no_graph.NoHeader i) p = p ≡ refusal NoSuchHeader
-IsStopped layout (no_graph.Refused fault) p = IsRefusalOf layout fault p
+abbrev pub IsStopped : Layout → Question → NoGraph → Printed → Type 0
+IsStopped layout q (no_graph.NoSource i) p = p ≡ no_source layout q i
+IsStopped layout q (no_graph.NoHeader i) p = p ≡ no_header layout q i
+IsStopped layout q (no_graph.Refused fault) p = IsRefusalOf layout fault p
 
 -- the file that was not read, and why
 abbrev pub unread_by : NoGraph → Option (ℕ × ReadFault)

@@ -6,7 +6,7 @@ use Rattle.inc_graph.specs.Marks.{Mark}
 use Rattle.inc_check.specs.Texts.{line_text}
 use Rattle.inc_report.specs.MarkTexts.{mark_text, blockers_text}
 use Rattle.inc_report.specs.Numbers.{point_text}
-use Rattle.inc_report.specs.Printed.{Printed, refused}
+use Rattle.inc_report.specs.Printed.{Printed, refused, refused_for}
 
 pub data Refusal : Type 0 where
   NoSuchSource : Refusal
@@ -40,3 +40,7 @@ refusal_text (CostTwice mark) = line_text (codes "refused 11 cost twice") ++ mar
 
 abbrev pub refusal : Refusal → Printed
 refusal r = refused (refusal_text r)
+
+-- with a reason beside it
+abbrev pub refusal_for : (reason : List ℕ) → Refusal → Printed
+refusal_for reason r = refused_for reason (refusal_text r)

@@ -1,6 +1,6 @@
 -- What is asked of a project.
 use Rattle.std.specs.Prelude.{ℕ, Bool, List, Option, filter_map, option_map}
-use Rattle.inc_token.specs.declared.kinds.Language.{Language}
+use Rattle.inc_text.specs.declared.languages.Language.{Language}
 use Rattle.inc_lookup.specs.declared.projects.DirectiveId.{DirectiveId}
 use Rattle.inc_lookup.specs.Projects.{Layout, place_of}
 use Rattle.inc_graph.specs.Marks.{Mark, Cost}
@@ -39,6 +39,10 @@ pub record PpQuestion : Type 0 where
   pub settings : Settings
   -- the marks of the include directives that are taken as removed
   pub without : List Mark
+  -- whether rules for make are asked for
+  pub has_rules : Bool
+  -- whether it is asked for how each source ended
+  pub has_endings : Bool
 
 -- the directive that a mark names, in the file whose path it has, byte for byte
 abbrev pub named_directive : Layout → Mark → Option DirectiveId

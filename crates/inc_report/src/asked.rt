@@ -1,7 +1,7 @@
 //! What is asked of a project.
 use inc_graph::{Cost, Mark};
 use inc_pp::Settings;
-use inc_token::Language;
+use inc_text::Language;
 use std::marker::Model;
 
 /// A question about sources and headers of a project, or about sources alone. Where a path names no file, or a list of headers is empty, it
@@ -67,6 +67,10 @@ pub struct PpQuestion<'q> {
     pub settings: &'q Settings<'q>,
     /// The include directives that are taken as removed. Marks that name none change nothing.
     pub without: &'q [Mark],
+    /// Whether rules for make are asked for, beside what is printed.
+    pub has_rules: bool,
+    /// Whether it is asked for how each source ended, beside what is printed.
+    pub has_endings: bool,
 }
 
 impl<'q> Model for PpQuestion<'q> {
@@ -80,5 +84,7 @@ impl<'q> Model for PpQuestion<'q> {
       words = map (λ w. w.now) q.words.now;
       settings = q.settings.now;
       without = q.without.now;
+      has_rules = q.has_rules;
+      has_endings = q.has_endings;
     } };
 }

@@ -12,7 +12,7 @@ use crate::kept_sources::KeptFiles;
 use inc_directive::blank_includes;
 use inc_graph::{EdgeId, Graph};
 use inc_lookup::{DirectiveId, FileId, Project};
-use inc_token::Language;
+use inc_text::Language;
 use std::alloc::{AllocError, Global};
 use std::marker::Model;
 

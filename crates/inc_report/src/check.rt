@@ -14,7 +14,7 @@ use crate::asked::{Limits, Question};
 use crate::limits::{amounts_of, refuse_hindrance};
 use crate::lines::{send_line, send_number};
 use crate::missing_notes::empty_notes;
-use crate::outcome::{End, EndKind, RunFault};
+use crate::outcome::{End, EndKind, RunFault, noted};
 use crate::output::Output;
 use crate::questions::{find_graph, refuse_question};
 use crate::refusals::{Refusal, refuse};
@@ -93,7 +93,7 @@ fn judge<S: Sources, T: ByteSource, W: ByteSink>(
 {
     match find_graph(alloc, project, sources, question) {
         Ok(graph) => judge_graph(alloc, project, &graph, limits, certificate, out),
-        Err(cause) => refuse_question(project, cause, out),
+        Err(cause) => refuse_question(alloc, project, question, cause, out),
     }
 }
 
@@ -115,7 +115,7 @@ fn judge_graph<T: ByteSource, W: ByteSink>(
 {
     match amounts_of(alloc, project, graph, limits) {
         Ok(fixed) => judge_text(alloc, project, graph, &fixed, certificate, out),
-        Err(cause) => refuse_hindrance(project, graph, limits, cause, out),
+        Err(cause) => refuse_hindrance(alloc, project, graph, limits, cause, out),
     }
 }
 
@@ -141,7 +141,7 @@ fn judge_text<T: ByteSource, W: ByteSink>(
         Ok(verdict) => {
             send_verdict(out, verdict);
             let kind = kind_of(verdict);
-            Ok(End { kind, notes })
+            Ok(noted(kind, notes))
         }
         Err(CheckFault::Malformed { line }) => Ok(refuse(out, Refusal::Malformed { line })),
         Err(CheckFault::CannotRead) => Err(RunFault::CannotReadCertificate),

@@ -21,7 +21,7 @@ use crate::edges::{send_edges, send_list};
 use crate::limits::{amounts_of, refuse_hindrance};
 use crate::lines::{send_count_line, send_number};
 use crate::missing_notes::{Notes, empty_notes};
-use crate::outcome::{End, EndKind, RunFault};
+use crate::outcome::{End, EndKind, RunFault, noted};
 use crate::output::Output;
 use crate::questions::{find_graph, refuse_question};
 use inc_cut::{CountedChains, CutAnswer, PhaseSearch, smallest_cut};
@@ -81,7 +81,7 @@ fn separate<S: Sources, W: ByteSink>(
 {
     match find_graph(alloc, project, sources, question) {
         Ok(graph) => separate_graph(alloc, project, &graph, limits, out),
-        Err(cause) => refuse_question(project, cause, out),
+        Err(cause) => refuse_question(alloc, project, question, cause, out),
     }
 }
 
@@ -100,7 +100,7 @@ fn separate_graph<W: ByteSink>(
 {
     match amounts_of(alloc, project, graph, limits) {
         Ok(fixed) => send_smallest(alloc, project, graph, &fixed, out),
-        Err(cause) => refuse_hindrance(project, graph, limits, cause, out),
+        Err(cause) => refuse_hindrance(alloc, project, graph, limits, cause, out),
     }
 }
 
@@ -155,10 +155,7 @@ fn send_answer<W: ByteSink>(
     match answer {
         CutAnswer::Cut { edges, chains } => {
             send_cut(out, project, graph, edges, chains);
-            End {
-                kind: EndKind::Answered,
-                notes,
-            }
+            noted(EndKind::Answered, notes)
         }
         CutAnswer::Fixed { chain } => send_fixed(out, project, graph, fixed, chain, notes),
     }
@@ -179,10 +176,7 @@ pub(crate) fn send_fixed<W: ByteSink>(
     ensures { (p : Printed) × IsFixedPrinted project.now graph.now fixed.now p × SendsWhole p out.old out.new result }
 {
     send_list(out, b"fixed", project, graph, chain.edges.as_slice());
-    End {
-        kind: EndKind::Negative,
-        notes,
-    }
+    noted(EndKind::Negative, notes)
 }
 
 /// Sends a cut and its chains: the text of the certificate that they are.

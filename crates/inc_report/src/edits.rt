@@ -18,15 +18,14 @@ use crate::cut::{nearest_cut, send_fixed};
 use crate::kept_sources::{KeptFiles, KeptSources};
 use crate::limits::{amounts_of, refuse_hindrance};
 use crate::missing_notes::empty_notes;
-use crate::outcome::{End, EndKind, RunFault};
+use crate::outcome::{End, EndKind, RunFault, noted};
 use crate::output::Output;
 use crate::patch::send_patch;
 use crate::questions::{find_graph, refuse_question};
 use inc_cut::CutAnswer;
 use inc_graph::{Fixed, Graph};
 use inc_lookup::{Project, Sources};
-use inc_text::ByteSink;
-use inc_token::Language;
+use inc_text::{ByteSink, Language};
 use std::alloc::Global;
 
 /// Writes the files that hold a directive of the cut that [`run_cut`](crate::run_cut) writes, each with these directives blanked: every
@@ -161,7 +160,7 @@ fn separate<S: Sources, W: ByteSink>(
                 out,
             )
         }
-        Err(cause) => refuse_question(project, cause, out),
+        Err(cause) => refuse_question(alloc, project, question, cause, out),
     }
 }
 
@@ -186,7 +185,7 @@ fn separate_graph<W: ByteSink>(
 {
     match amounts_of(alloc, project, graph, limits) {
         Ok(fixed) => send_smallest(alloc, project, graph, files, language, &fixed, form, out),
-        Err(cause) => refuse_hindrance(project, graph, limits, cause, out),
+        Err(cause) => refuse_hindrance(alloc, project, graph, limits, cause, out),
     }
 }
 
@@ -217,10 +216,7 @@ fn send_smallest<W: ByteSink>(
             let directives = directives_of(alloc, graph, edges)?;
             let changes = changes_of(alloc, project, files, &directives, language)?;
             send_changes(out, &changes, form);
-            Ok(End {
-                kind: EndKind::Answered,
-                notes,
-            })
+            Ok(noted(EndKind::Answered, notes))
         }
         CutAnswer::Fixed { chain } => Ok(send_fixed(out, project, graph, fixed, chain, notes)),
     }

@@ -63,7 +63,7 @@ fn list<S: Sources, W: ByteSink>(
 {
     match find_graph(alloc, project, sources, question) {
         Ok(graph) => list_graph(project, &graph, out),
-        Err(cause) => refuse_question(project, cause, out),
+        Err(cause) => refuse_question(alloc, project, question, cause, out),
     }
 }
 

@@ -4,16 +4,15 @@ ghost use Rattle.std.specs.Prelude.{◌≡◌, ◌<◌, ◌≢◌, [], None, len
 ghost use Rattle.std.specs.List.{All};
 ghost use Rattle.inc_graph.specs.MarkedEdges.{amounts_by, marks_fault};
 ghost use Rattle.inc_graph.specs.declared.fixing.FixedFault.TheVariants as fault;
-ghost use Rattle.inc_report.specs.CutText.{IsHindrance, refusal_of_fault, marks_refusal, Unhindered};
-ghost use Rattle.inc_report.specs.Refusals.{refusal};
-ghost use Rattle.inc_report.specs.Refusals as spec;
+ghost use Rattle.inc_report.specs.CutText.{IsHindrance, blocked, refusal_of_fault, marks_refusal, Unhindered};
 ghost use Rattle.inc_report.specs.Views.{seen_refusal};
-ghost use Rattle.inc_report.specs.Writing.{Prints, SendsWhole};
+ghost use Rattle.inc_report.specs.Writing.{Prints};
 
 use crate::asked::Limits;
+use crate::blocked_reasons::blocked_reasons;
 use crate::edges::send_blockers;
 use crate::lines::send_line;
-use crate::outcome::{End, EndKind, RunFault, plain};
+use crate::outcome::{End, EndKind, RunFault, noted};
 use crate::output::Output;
 use crate::refusals::{Refusal, refuse};
 use inc_graph::{Blocker, Fixed, FixedFault, Graph};
@@ -64,6 +63,7 @@ pub(crate) fn amounts_of(
 
 /// Sends the refusal of what hinders an answer.
 pub(crate) fn refuse_hindrance<W: ByteSink>(
+    alloc: Global,
     project: &Project<'_>,
     graph: &Graph,
     limits: &Limits<'_>,
@@ -78,7 +78,7 @@ pub(crate) fn refuse_hindrance<W: ByteSink>(
     ensures fault { IfErr result (λ f. f ≡ RunFault.NoMemory) }
 {
     match cause {
-        Hindrance::Blocked => Ok(refuse_blocked(project, graph.blockers(), out)),
+        Hindrance::Blocked => refuse_blocked(alloc, project, graph.blockers(), out),
         Hindrance::Marks(fault) => match refusal_of(fault, limits) {
             Some(refusal) => Ok(refuse(out, refusal)),
             None => Err(RunFault::NoMemory),
@@ -112,14 +112,17 @@ fn refusal_of<'l>(fault: FixedFault, limits: &Limits<'l>) -> Option<Refusal<'l>>
 
 /// Sends the refusal by blockers, and each of them, and says how the call ends.
 fn refuse_blocked<W: ByteSink>(
+    alloc: Global,
     project: &Project<'_>,
     blockers: &[Blocker],
     out: &mut Output<W>,
-) -> End
+) -> Result<End, RunFault>
     requires { All (λ (b : Blocker). b.file < length project.now.paths) blockers.now }
-    ensures { SendsWhole (refusal (spec.Blocked project.now blockers.now)) out.old out.new result }
+    ensures sent { Prints (λ p. p ≡ blocked project.now blockers.now) out.old out.new result }
+    ensures fault { IfErr result (λ f. f ≡ RunFault.NoMemory) }
 {
+    let reasons = blocked_reasons(alloc, project, blockers)?;
     send_line(out, b"refused 5 blocked");
     send_blockers(out, project, blockers);
-    plain(EndKind::Refused)
+    Ok(noted(EndKind::Refused, reasons))
 }

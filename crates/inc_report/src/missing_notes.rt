@@ -39,7 +39,7 @@ impl Notes {
     }
 
     /// These lines.
-    fn of(text: Vec<u8>) -> Notes
+    pub(crate) fn of(text: Vec<u8>) -> Notes
         ensures { result ≡ text.items }
     {
         Notes { text: Some(text) }
@@ -242,7 +242,7 @@ fn padding(n: usize) -> &'static [u8]
 }
 
 /// Adds a number.
-fn put_number(text: &mut Vec<u8>, n: u64) -> Result<(), AllocError>
+pub(crate) fn put_number(text: &mut Vec<u8>, n: u64) -> Result<(), AllocError>
     ensures { OnOk result (text.new.items ≡ text.old.items ++ decimal n) }
 {
     let mut buffer = Buffer::new();
@@ -319,7 +319,7 @@ fn put_found_line(text: &mut Vec<u8>, path: &[u8], dir: &[u8]) -> Result<(), All
 }
 
 /// Adds bytes as they are shown on a line.
-fn put_shown(text: &mut Vec<u8>, bytes: &[u8]) -> Result<(), AllocError>
+pub(crate) fn put_shown(text: &mut Vec<u8>, bytes: &[u8]) -> Result<(), AllocError>
     ensures { OnOk result (text.new.items ≡ text.old.items ++ shown bytes.now) }
 {
     for byte in bytes {
@@ -329,7 +329,7 @@ fn put_shown(text: &mut Vec<u8>, bytes: &[u8]) -> Result<(), AllocError>
 }
 
 /// Adds a byte as it is, or as `\xNN` where it is no printable ASCII.
-fn put_byte(text: &mut Vec<u8>, byte: u8) -> Result<(), AllocError>
+pub(crate) fn put_byte(text: &mut Vec<u8>, byte: u8) -> Result<(), AllocError>
     ensures { OnOk result (text.new.items ≡ text.old.items ++ shown_byte byte) }
 {
     if 31 < byte && byte < 127 {

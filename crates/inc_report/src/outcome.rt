@@ -1,8 +1,9 @@
 //! How a call that prints ends.
 ghost use Rattle.std.specs.Prelude.{◌≡◌, []};
-ghost use Rattle.inc_report.specs.Printed.{end_of};
+ghost use Rattle.inc_report.specs.Printed.{end_of, with_texts};
 ghost use Rattle.inc_report.specs.declared.outcome.RunFault.TheVariants.{Write, NoMemory};
 
+use crate::file_texts::FileText;
 use crate::missing_notes::Notes;
 use inc_lookup::FileId;
 use inc_text::DeviceFault;
@@ -15,8 +16,14 @@ pub struct End {
     /// Whether with its answer.
     pub kind: EndKind,
     /// What is noted beside the answer: of headers that were not found, which an answer about cuts takes as empty, and without which another
-    /// one may be that no header is reached. Nothing after a refusal.
+    /// one may be that no header is reached. After a refusal its reason, where there is more to say than its text does.
     pub notes: Notes,
+    /// Rules for make, where they are asked for: of each source which files were read for it.
+    pub rules: FileText,
+    /// Of each source how many bytes are printed and how it ended, where that is asked for.
+    pub endings: FileText,
+    /// In words where and why sources stopped, a line for each that did.
+    pub stops: Notes,
 }
 
 /// Whether a call that prints ends with its answer.
@@ -34,10 +41,46 @@ pub enum EndKind {
 pub(crate) fn plain(kind: EndKind) -> End
     ensures { result ≡ end_of [] kind }
 {
+    noted(kind, Notes::none())
+}
+
+/// How a call ends beside whose answer these are noted.
+pub(crate) fn noted(kind: EndKind, notes: Notes) -> End
+    ensures { result ≡ end_of notes kind }
+{
     End {
         kind,
-        notes: Notes::none(),
+        notes,
+        rules: FileText::none(),
+        endings: FileText::none(),
+        stops: Notes::none(),
     }
+}
+
+/// How a call ends with these notes, rules for make, lines on how sources ended, and lines on why they stopped.
+pub(crate) fn ended(
+    kind: EndKind,
+    notes: Notes,
+    rules: FileText,
+    endings: FileText,
+    stops: Notes,
+) -> End
+    ensures { result ≡ with_texts rules endings stops (end_of notes kind) }
+{
+    End {
+        kind,
+        notes,
+        rules,
+        endings,
+        stops,
+    }
+}
+
+/// The same where nothing else is noted.
+pub(crate) fn texted(kind: EndKind, rules: FileText, endings: FileText, stops: Notes) -> End
+    ensures { result ≡ with_texts rules endings stops (end_of [] kind) }
+{
+    ended(kind, Notes::none(), rules, endings, stops)
 }
 
 /// Why a call that prints could not end.

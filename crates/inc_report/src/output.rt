@@ -99,6 +99,7 @@ impl<W: ByteSink> Output<W> {
         ensures written { (start : Option (List ℕ)) (p : Printed) → IsSent start p.text self.old → end ≡ p.end →
             Writes (λ q. q ≡ p) start self.new.written self.new.failed result }
         ensures empty { self.new.waiting ≡ [] }
+        ensures same { IfOk result (λ e. e ≡ end) }
         ensures fault { IfErr result (λ fault. fault ≡ Write) }
     {
         self.flush();

@@ -7,15 +7,17 @@ ghost use Rattle.inc_check.specs.Certificates.{IsEachPathOnce};
 ghost use Rattle.inc_report.specs.Known.{IsKnown};
 ghost use Rattle.inc_report.specs.Printed.{Printed};
 ghost use Rattle.inc_report.specs.NamedFiles.{headers_at, sources_at};
-ghost use Rattle.inc_report.specs.Questions.{FailsAt, IsAnswerBy, IsFirstUnnamed, IsNoEnds, IsRefusalOf, IsStopped, IsWithin, unread_by};
+ghost use Rattle.inc_report.specs.Questions.{FailsAt, IsAnswerBy, IsFirstUnnamed, IsNoEnds, IsRefusalOf, IsStopped, IsWithin, no_header, no_source, unread_by};
 ghost use Rattle.inc_report.specs.Terms.{named_directive, named_directives, setting_in};
 ghost use Rattle.inc_report.specs.Writing.{Prints, unread_of, is_of_certificate};
 
 use crate::asked::Question;
+use crate::fault_reasons::refuse_bad_file;
 use crate::named_files::{NameFault, headers_at, sources_at};
+use crate::near_names::unnamed_at;
 use crate::outcome::{End, RunFault};
 use crate::output::Output;
-use crate::refusals::{Refusal, refuse};
+use crate::refusals::{Refusal, refuse, refuse_for};
 use inc_graph::{Graph, GraphRefusal, Mark, Setting};
 use inc_lookup::{DirectiveId, FileId, Project, Sources};
 use inc_text::ByteSink;
@@ -61,7 +63,7 @@ pub(crate) fn find_graph<S: Sources>(
         HoldsOfGiven S.gives sources.old sources.new project.now
         (IsAnswerBy (λ layout g r. g ≡ graph) question.now p)) }
     ensures known { IfOk result (λ graph. IsKnown project.now graph) }
-    ensures stopped { IfErr result (λ cause. (p : Printed) → IsStopped project.now cause p →
+    ensures stopped { IfErr result (λ cause. (p : Printed) → IsStopped project.now question.now cause p →
         HoldsOfGiven S.gives sources.old sources.new project.now
         (IsAnswerBy (λ layout g r. ⊥) question.now p)) }
     ensures unread { IfErr result (λ cause. IfSome (unread_by cause)
@@ -90,7 +92,7 @@ fn graph_of_ends<S: Sources>(
         HoldsOfGiven S.gives sources.old sources.new project.now
         (IsAnswerBy (λ layout g r. g ≡ graph) question.now p)) }
     ensures known { IfOk result (λ graph. IsKnown project.now graph) }
-    ensures stopped { IfErr result (λ cause. (p : Printed) → IsStopped project.now cause p →
+    ensures stopped { IfErr result (λ cause. (p : Printed) → IsStopped project.now question.now cause p →
         HoldsOfGiven S.gives sources.old sources.new project.now
         (IsAnswerBy (λ layout g r. ⊥) question.now p)) }
     ensures unread { IfErr result (λ cause. IfSome (unread_by cause)
@@ -212,24 +214,58 @@ fn directive_named(project: &Project<'_>, mark: &Mark) -> Option<DirectiveId>
 
 /// Sends why a question has no graph.
 pub(crate) fn refuse_question<W: ByteSink>(
+    alloc: Global,
     project: &Project<'_>,
+    question: &Question<'_>,
     cause: NoGraph,
     out: &mut Output<W>,
 ) -> Result<End, RunFault>
     requires { IsWithin (length project.now.paths) cause }
-    ensures sent { Prints (IsStopped project.now cause) out.old out.new result }
+    ensures sent { Prints (IsStopped project.now question.now cause) out.old out.new result }
     ensures unread { IfErr result (λ f. IfSome (unread_of f) (λ r. unread_by cause ≡ Some r)) }
     ensures certificate { IfErr result (λ f. is_of_certificate f ≡ false) }
 {
     match cause {
-        NoGraph::NoSource(_) => Ok(refuse(out, Refusal::NoSuchSource)),
-        NoGraph::NoHeader(_) => Ok(refuse(out, Refusal::NoSuchHeader)),
-        NoGraph::Refused(fault) => refuse_graph(project, fault, out),
+        NoGraph::NoSource(place) => refuse_source(alloc, project, question, place, out),
+        NoGraph::NoHeader(place) => refuse_header(alloc, project, question, place, out),
+        NoGraph::Refused(fault) => refuse_graph(alloc, project, fault, out),
     }
+}
+
+/// Sends the refusal of the source at a place.
+fn refuse_source<W: ByteSink>(
+    alloc: Global,
+    project: &Project<'_>,
+    question: &Question<'_>,
+    place: usize,
+    out: &mut Output<W>,
+) -> Result<End, RunFault>
+    ensures sent { Prints (λ p. p ≡ no_source project.now question.now place) out.old out.new result }
+    ensures fault { IfErr result (λ f. f ≡ RunFault.NoMemory) }
+{
+    let reason = unnamed_at(alloc, project, b"source", question.from, place)?;
+    Ok(refuse_for(out, Refusal::NoSuchSource, reason))
+}
+
+/// Sends the refusal of the header at a place.
+fn refuse_header<W: ByteSink>(
+    alloc: Global,
+    project: &Project<'_>,
+    question: &Question<'_>,
+    place: usize,
+    out: &mut Output<W>,
+) -> Result<End, RunFault>
+    ensures sent { Prints (λ p. p ≡ no_header project.now question.now place) out.old out.new result }
+    ensures fault { IfErr result (λ f. f ≡ RunFault.NoMemory) }
+{
+    let headers = question.to.unwrap_or(&[]);
+    let reason = unnamed_at(alloc, project, b"header", headers, place)?;
+    Ok(refuse_for(out, Refusal::NoSuchHeader, reason))
 }
 
 /// Sends the refusal that is in place of a graph.
 fn refuse_graph<W: ByteSink>(
+    alloc: Global,
     project: &Project<'_>,
     fault: GraphRefusal,
     out: &mut Output<W>,
@@ -240,9 +276,9 @@ fn refuse_graph<W: ByteSink>(
     ensures certificate { IfErr result (λ f. is_of_certificate f ≡ false) }
 {
     match fault {
-        GraphRefusal::BadFile { file, line } => {
+        GraphRefusal::BadFile { file, fault } => {
             let path = project.path(file);
-            Ok(refuse(out, Refusal::BadFile { path, line }))
+            refuse_bad_file(alloc, path, path, fault, out)
         }
         GraphRefusal::TooManyDirectives => Ok(refuse(out, Refusal::TooManyDirectives)),
         GraphRefusal::CannotRead { file } => Err(RunFault::CannotRead { file }),

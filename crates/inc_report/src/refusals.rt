@@ -1,11 +1,12 @@
 //! Refusals, which are printed in place of an answer.
-ghost use Rattle.inc_report.specs.Refusals.{refusal, refusal_text};
+ghost use Rattle.inc_report.specs.Refusals.{refusal, refusal_for, refusal_text};
 ghost use Rattle.inc_report.specs.Sending.{Sends};
 ghost use Rattle.inc_report.specs.Views.{seen_refusal};
 ghost use Rattle.inc_report.specs.Writing.{SendsWhole};
 
 use crate::lines::{send_directive, send_line, send_number, send_point};
-use crate::outcome::{End, EndKind, plain};
+use crate::missing_notes::Notes;
+use crate::outcome::{End, EndKind, noted, plain};
 use crate::output::Output;
 use inc_text::ByteSink;
 
@@ -100,4 +101,12 @@ pub(crate) fn refuse<W: ByteSink>(out: &mut Output<W>, cause: Refusal<'_>) -> En
 {
     send_refusal(out, cause);
     plain(EndKind::Refused)
+}
+
+/// The same with a reason beside it.
+pub(crate) fn refuse_for<W: ByteSink>(out: &mut Output<W>, cause: Refusal<'_>, reason: Notes) -> End
+    ensures { SendsWhole (refusal_for reason (seen_refusal cause.entry)) out.old out.new result }
+{
+    send_refusal(out, cause);
+    noted(EndKind::Refused, reason)
 }

@@ -10,13 +10,13 @@ ghost use Rattle.inc_report.specs.ScanText.{target_text, entry_of, scan_text, sc
 ghost use Rattle.inc_report.specs.Sending.{Sends};
 ghost use Rattle.inc_report.specs.Writing.{Prints, Writes, is_own};
 
+use crate::fault_reasons::refuse_bad_file;
 use crate::lines::{send_count_line, send_line, send_number};
 use crate::outcome::{End, EndKind, RunFault, plain};
 use crate::output::Output;
 use crate::refusals::{Refusal, refuse};
 use inc_directive::{Directive, DirectiveKind, FileLines, LineKind, Target, read_lines};
-use inc_text::{ByteSink, LONGEST_FILE, TextFault, splice_owned};
-use inc_token::Language;
+use inc_text::{ByteSink, LONGEST_FILE, Language, TextFault, splice_owned};
 use std::alloc::{AllocError, Global};
 
 /// Writes the include directives of a source, and those that are no directives of C but include too, in whatever
@@ -29,7 +29,7 @@ pub fn run_scan<W: ByteSink>(
     w: W,
 ) -> (Result<End, RunFault>, W)
     requires { W.has_failed w ≡ false }
-    ensures written { Writes (λ p. p ≡ scan language path.now source.now)
+    ensures written { Writes (λ p. p ≡ scan language path.now path.now source.now)
         (W.written w) (W.written result.1) (W.has_failed result.1) result.0 }
     ensures own { IfErr result.0 (λ f. is_own f ≡ true) }
 {
@@ -37,7 +37,7 @@ pub fn run_scan<W: ByteSink>(
         return run_scan_too_long(alloc, w);
     }
     match copied(alloc, source) {
-        Ok(bytes) => run_scan_owned(alloc, path, bytes, language, w),
+        Ok(bytes) => run_scan_owned(alloc, path, path, bytes, language, w),
         Err(_) => (Err(RunFault::NoMemory), w),
     }
 }
@@ -52,16 +52,17 @@ fn copied(alloc: Global, source: &[u8]) -> Result<Vec<u8>, AllocError>
 }
 
 /// The same of a source that is handed over, whose memory becomes that of its text. Room for one byte more spares a copy where a
-/// new-line is added.
+/// new-line is added. The title is what the source is called beside its refusal.
 pub fn run_scan_owned<W: ByteSink>(
     alloc: Global,
     path: &[u8],
+    title: &[u8],
     source: Vec<u8>,
     language: Language,
     w: W,
 ) -> (Result<End, RunFault>, W)
     requires { W.has_failed w ≡ false }
-    ensures written { Writes (λ p. p ≡ scan language path.now source.items)
+    ensures written { Writes (λ p. p ≡ scan language path.now title.now source.items)
         (W.written w) (W.written result.1) (W.has_failed result.1) result.0 }
     ensures own { IfErr result.0 (λ f. is_own f ≡ true) }
 {
@@ -69,7 +70,7 @@ pub fn run_scan_owned<W: ByteSink>(
         Ok(out) => out,
         Err(w) => return (Err(RunFault::NoMemory), w),
     };
-    let ended = scan_source(alloc, &mut out, path, source, language);
+    let ended = scan_source(alloc, &mut out, path, title, source, language);
     out.finish(ended)
 }
 
@@ -93,13 +94,14 @@ fn scan_source<W: ByteSink>(
     alloc: Global,
     out: &mut Output<W>,
     path: &[u8],
+    title: &[u8],
     source: Vec<u8>,
     language: Language,
 ) -> Result<End, RunFault>
-    ensures sent { Prints (λ p. p ≡ scan language path.now source.items) out.old out.new result }
+    ensures sent { Prints (λ p. p ≡ scan language path.now title.now source.items) out.old out.new result }
     ensures own { IfErr result (λ f. is_own f ≡ true) }
 {
-    let text = match splice_owned(alloc, source) {
+    let text = match splice_owned(alloc, source, language) {
         Ok(text) => text,
         Err(TextFault::TooLong) => return Ok(refuse(out, Refusal::TooLong)),
         Err(TextFault::NoMemory) => return Err(RunFault::NoMemory),
@@ -110,7 +112,7 @@ fn scan_source<W: ByteSink>(
             Ok(plain(EndKind::Answered))
         }
         Err(fault) => match fault.line() {
-            Some(line) => Ok(refuse(out, Refusal::BadFile { path, line })),
+            Some(_) => refuse_bad_file(alloc, path, title, fault, out),
             None => Err(RunFault::NoMemory),
         },
     }

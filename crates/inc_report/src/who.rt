@@ -13,7 +13,7 @@ use crate::asked::Question;
 use crate::edges::send_list;
 use crate::lines::{send_count_line, send_directive};
 use crate::missing_notes::{Notes, unreached_notes};
-use crate::outcome::{End, EndKind, RunFault};
+use crate::outcome::{End, EndKind, RunFault, noted};
 use crate::output::Output;
 use crate::questions::{find_graph, refuse_question};
 use crate::why::send_ways;
@@ -66,7 +66,7 @@ fn tell<S: Sources, W: ByteSink>(
 {
     match find_graph(alloc, project, sources, question) {
         Ok(graph) => tell_graph(alloc, project, &graph, with_chains, out),
-        Err(cause) => refuse_question(project, cause, out),
+        Err(cause) => refuse_question(alloc, project, question, cause, out),
     }
 }
 
@@ -88,10 +88,7 @@ fn tell_graph<W: ByteSink>(
     let notes = notes_of(alloc, project, graph, &reaching)?;
     send_reaching(out, project, graph, with_chains, &mut reaching);
     send_ways(out, project, graph, &mut chains);
-    Ok(End {
-        kind: EndKind::Answered,
-        notes,
-    })
+    Ok(noted(EndKind::Answered, notes))
 }
 
 /// The notes beside the answer that these sources reach a header: there are some where none does.

@@ -15,7 +15,7 @@ use crate::asked::Question;
 use crate::edges::{send_blockers, send_list};
 use crate::lines::{send_count_line, send_directive, send_line};
 use crate::missing_notes::unreached_notes;
-use crate::outcome::{End, EndKind, RunFault, plain};
+use crate::outcome::{End, EndKind, RunFault, noted, plain};
 use crate::output::Output;
 use crate::questions::{find_graph, refuse_question};
 use inc_graph::{Graph, MissingList, ShortestChains};
@@ -65,7 +65,7 @@ fn explain<S: Sources, W: ByteSink>(
 {
     match find_graph(alloc, project, sources, question) {
         Ok(graph) => explain_graph(alloc, project, &graph, out),
-        Err(cause) => refuse_question(project, cause, out),
+        Err(cause) => refuse_question(alloc, project, question, cause, out),
     }
 }
 
@@ -88,10 +88,7 @@ fn explain_graph<W: ByteSink>(
     }
     let notes = unreached_notes(alloc, project, graph)?;
     send_unreached(out, project, graph, &mut chains);
-    Ok(End {
-        kind: EndKind::Answered,
-        notes,
-    })
+    Ok(noted(EndKind::Answered, notes))
 }
 
 /// Sends the text of a graph in which the chain that is made is a shortest one.

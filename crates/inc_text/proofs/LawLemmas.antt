@@ -9,6 +9,7 @@ use Rattle.std.proofs.lemmas.List.Sums.{sum_by-take-le, sum_by_push}
 use Rattle.inc_text.specs.PhaseText.{Cell, cells_from, joined, without_mark, with_new_lines, with_trigraphs, spliced, ended_by, added_new_line, phase_text, bytes_of, trigraph, is_trigraph}
 use Rattle.inc_text.specs.Origins.{text_from, open_text, is_special, mark_len, ends_open}
 use Rattle.inc_text.proofs.PhaseLemmas.{text_plain, without_mark_is, lf}
+use Rattle.inc_text.specs.declared.languages.Language.{Language}
 
 -- the line of a cell is that of its first source byte
 abbrev LineOf : List ℕ → Cell → Type 0
@@ -23,7 +24,7 @@ line_after : (l : ℕ) (t : Bool) → 1 + (l + cond t 1 0) ≡ cond t (1 + l + 1
 line_after l true = omega arith
 line_after l false = omega arith
 
-module _ (source : List ℕ) where
+module _ (language : Language) (source : List ℕ) where
   lower : (lo mid hi : ℕ) (cells : List Cell) → lo ≤ mid → Lie source mid hi cells → Lie source lo hi cells
   lower lo mid hi [] le h = omega arith
   lower lo mid hi (c ∷ r) le h = (omega (arith, h.0), h.1, h.2, h.3)
@@ -54,12 +55,12 @@ module _ (source : List ℕ) where
   lie_new_lines lo hi (a ∷ b ∷ r) h =
       cond_both (eqb a.byte 13 && eqb b.byte 10) (joined 10 a b ∷ with_new_lines r) (a ∷ with_new_lines (b ∷ r)) (Lie source lo hi) (λ _. (h.0, omega (arith, h.1, h.3.0, h.3.1), h.2, lie_new_lines b.last hi r h.3.3)) (λ _. (h.0, h.1, h.2, lie_new_lines a.last hi (b ∷ r) h.3))
 
-  lie_trigraphs : (lo hi : ℕ) (cells : List Cell) → Lie source lo hi cells → Lie source lo hi (with_trigraphs cells)
+  lie_trigraphs : (lo hi : ℕ) (cells : List Cell) → Lie source lo hi cells → Lie source lo hi (with_trigraphs language cells)
   lie_trigraphs lo hi [] h = h
   lie_trigraphs lo hi (a ∷ []) h = h
   lie_trigraphs lo hi (a ∷ b ∷ []) h = h
   lie_trigraphs lo hi (a ∷ b ∷ c ∷ r) h =
-      cond_both (is_trigraph a.byte b.byte c.byte) (joined (trigraph c.byte) a c ∷ with_trigraphs r) (a ∷ with_trigraphs (b ∷ c ∷ r)) (Lie source lo hi) (λ _. (h.0, omega (arith, h.1, h.3.0, h.3.1, h.3.3.0, h.3.3.1), h.2, lie_trigraphs c.last hi r h.3.3.3)) (λ _. (h.0, h.1, h.2, lie_trigraphs a.last hi (b ∷ c ∷ r) h.3))
+      cond_both (is_trigraph language a.byte b.byte c.byte) (joined (trigraph language c.byte) a c ∷ with_trigraphs language r) (a ∷ with_trigraphs language (b ∷ c ∷ r)) (Lie source lo hi) (λ _. (h.0, omega (arith, h.1, h.3.0, h.3.1, h.3.3.0, h.3.3.1), h.2, lie_trigraphs c.last hi r h.3.3.3)) (λ _. (h.0, h.1, h.2, lie_trigraphs a.last hi (b ∷ c ∷ r) h.3))
 
   lie_spliced : (lo hi : ℕ) (cells : List Cell) → Lie source lo hi cells → Lie source lo hi (spliced cells)
   lie_spliced lo hi [] h = h
@@ -73,16 +74,16 @@ module _ (source : List ℕ) where
       cond_both (eqb a.byte 10) (a ∷ []) (a ∷ end ∷ []) (Lie source lo hi) (λ _. h) (λ _. (h.0, h.1, h.2, (omega (arith, h.3), omega arith, n, omega arith)))
   lie_ended end lo hi (a ∷ b ∷ r) f l n h = (h.0, h.1, h.2, lie_ended end a.last hi (b ∷ r) f l n h.3)
 
-  lie_open_text : Lie source 0 (length source) (open_text source)
+  lie_open_text : Lie source 0 (length source) (open_text language source)
   lie_open_text =
       let hi : ℕ = length source in
       lie_spliced 0 hi _ (lie_trigraphs 0 hi _ (lie_new_lines 0 hi _ (lie_without_mark hi _ (lie_from [] source refl))))
 
-  lie_text : Lie source 0 (length source) (phase_text source)
+  lie_text : Lie source 0 (length source) (phase_text language source)
   lie_text =
       let hi : ℕ = length source in
       let line : LineOf source (added_new_line source) = ap (λ l. 1 + count_by lf l) (sym (take_all (length source) source (omega arith))) in
-      lie_ended (added_new_line source) 0 hi (open_text source) refl refl line lie_open_text
+      lie_ended (added_new_line source) 0 hi (open_text language source) refl refl line lie_open_text
 
   starts_above : (lo hi : ℕ) (cells : List Cell) → Lie source lo hi cells → All (λ (c : Cell). lo ≤ c.first) cells
   starts_above lo hi [] h = All-nil (λ (c : Cell). lo ≤ c.first)
@@ -106,26 +107,26 @@ module _ (source : List ℕ) where
   apart lo hi [] h = λ i j d lt k. absurd (omega arith)
   apart lo hi (c ∷ r) h = AllPairs-cons (λ (a b : Cell). a.last ≤ b.first) c r (starts_above c.last hi r h.3) (apart c.last hi r h.3)
 
-  pub text_within : All (λ (c : Cell). (c.first ≤ c.last) × (c.last ≤ length source)) (phase_text source)
-  text_within = within 0 (length source) (phase_text source) lie_text
+  pub text_within : All (λ (c : Cell). (c.first ≤ c.last) × (c.last ≤ length source)) (phase_text language source)
+  text_within = within 0 (length source) (phase_text language source) lie_text
 
-  pub text_apart : AllPairs (λ (a b : Cell). a.last ≤ b.first) (phase_text source)
-  text_apart = apart 0 (length source) (phase_text source) lie_text
+  pub text_apart : AllPairs (λ (a b : Cell). a.last ≤ b.first) (phase_text language source)
+  text_apart = apart 0 (length source) (phase_text language source) lie_text
 
-  pub text_lines : All (λ (c : Cell). c.line ≡ 1 + count_by lf (take c.first source)) (phase_text source)
-  text_lines = lines 0 (length source) (phase_text source) lie_text
+  pub text_lines : All (λ (c : Cell). c.line ≡ 1 + count_by lf (take c.first source)) (phase_text language source)
+  text_lines = lines 0 (length source) (phase_text language source) lie_text
 
-  pub open_text-within : All (λ (c : Cell). c.line ≤ (added_new_line source).line) (open_text source)
+  pub open_text-within : All (λ (c : Cell). c.line ≤ (added_new_line source).line) (open_text language source)
   open_text-within i d lt =
-      let is = lines 0 (length source) (open_text source) lie_open_text i d lt in
-      omega (arith, is, sum_by-take-le (λ b. cond (lf b) 1 0) source (get_or (open_text source) i d).first)
+      let is = lines 0 (length source) (open_text language source) lie_open_text i d lt in
+      omega (arith, is, sum_by-take-le (λ b. cond (lf b) 1 0) source (get_or (open_text language source) i d).first)
 
   -- fewer line feeds are before an earlier place
   count_rises : (m n : ℕ) → m ≤ n → count_by lf (take m source) ≤ count_by lf (take n source)
   count_rises m n le =
       subst (λ (l : List ℕ). count_by lf l ≤ count_by lf (take n source)) (take-take m n source le) (sum_by-take-le (λ b. cond (lf b) 1 0) (take n source) m)
 
-  pub text_rises : AllPairs (λ (a b : Cell). a.line ≤ b.line) (phase_text source)
+  pub text_rises : AllPairs (λ (a b : Cell). a.line ≤ b.line) (phase_text language source)
   text_rises i j d lt below =
       let one = text_lines i d (omega arith) in
       let two = text_lines j d below in
@@ -134,18 +135,18 @@ module _ (source : List ℕ) where
       omega (arith, one, two, count_rises _ _ (le_trans inner.0 order))
 
 -- a source with nothing special
-plain_cells : (at line : ℕ) (bs : List ℕ) → All (λ b. is_special b ≡ false) bs → text_from at line bs ≡ cells_from at line bs
-plain_cells at line [] h = refl
-plain_cells at line (b ∷ bs) h =
-    text_plain at line b bs (All-head (λ b. is_special b ≡ false) b bs h) ∙ ap (λ r. record { byte = b; first = at; last = at + 1; line = line } ∷ r) (plain_cells (at + 1) (cond (eqb b 10) (line + 1) line) bs (All-tail (λ b. is_special b ≡ false) b bs h))
+plain_cells : (language : Language) (at line : ℕ) (bs : List ℕ) → All (λ b. is_special b ≡ false) bs → text_from language at line bs ≡ cells_from at line bs
+plain_cells language at line [] h = refl
+plain_cells language at line (b ∷ bs) h =
+    text_plain language at line b bs (All-head (λ b. is_special b ≡ false) b bs h) ∙ ap (λ r. record { byte = b; first = at; last = at + 1; line = line } ∷ r) (plain_cells language (at + 1) (cond (eqb b 10) (line + 1) line) bs (All-tail (λ b. is_special b ≡ false) b bs h))
 
 no_mark : (t : Bool) → cond {A = ℕ} t 3 0 ≡ 0 → t ≡ false
 no_mark true e = absurd (omega arith)
 no_mark false e = refl
 
-pub text_stays : (source : List ℕ) → All (λ b. is_special b ≡ false) source → mark_len source ≡ 0 → phase_text source ≡ ended_by (added_new_line source) (cells_from 0 1 source)
-text_stays source h none =
-    ap (λ l. ended_by (added_new_line source) (spliced (with_trigraphs (with_new_lines l)))) (without_mark_is source ∙ cond-false _ _ _ (no_mark _ none)) ∙ ap (ended_by (added_new_line source)) (plain_cells 0 1 source h)
+pub text_stays : (language : Language) (source : List ℕ) → All (λ b. is_special b ≡ false) source → mark_len source ≡ 0 → phase_text language source ≡ ended_by (added_new_line source) (cells_from 0 1 source)
+text_stays language source h none =
+    ap (λ l. ended_by (added_new_line source) (spliced (with_trigraphs language (with_new_lines l)))) (without_mark_is source ∙ cond-false _ _ _ (no_mark _ none)) ∙ ap (ended_by (added_new_line source)) (plain_cells language 0 1 source h)
 
 bytes_of-cells_from : (at line : ℕ) (bs : List ℕ) → bytes_of (cells_from at line bs) ≡ bs
 bytes_of-cells_from at line [] = refl
@@ -173,6 +174,6 @@ bytes_of-ended end (a ∷ []) e = ended_one (eqb a.byte 10) end a e
 bytes_of-ended end (a ∷ b ∷ r) e =
     ap (λ l. a.byte ∷ l) (bytes_of-ended end (b ∷ r) e) ∙ (cons_cond a.byte (ends_open (bytes_of (b ∷ r))) _ _ ∙ ap (λ t. cond t (bytes_of (a ∷ b ∷ r) ++ 10 ∷ []) (bytes_of (a ∷ b ∷ r))) (sym (ends_open-cons a.byte b.byte (bytes_of r))))
 
-pub bytes_stay : (source : List ℕ) → All (λ b. is_special b ≡ false) source → mark_len source ≡ 0 → bytes_of (phase_text source) ≡ cond (ends_open source) (source ++ 10 ∷ []) source
-bytes_stay source h none =
-    ap bytes_of (text_stays source h none) ∙ (bytes_of-ended (added_new_line source) (cells_from 0 1 source) refl ∙ ap (λ l. cond (ends_open l) (l ++ 10 ∷ []) l) (bytes_of-cells_from 0 1 source))
+pub bytes_stay : (language : Language) (source : List ℕ) → All (λ b. is_special b ≡ false) source → mark_len source ≡ 0 → bytes_of (phase_text language source) ≡ cond (ends_open source) (source ++ 10 ∷ []) source
+bytes_stay language source h none =
+    ap bytes_of (text_stays language source h none) ∙ (bytes_of-ended (added_new_line source) (cells_from 0 1 source) refl ∙ ap (λ l. cond (ends_open l) (l ++ 10 ∷ []) l) (bytes_of-cells_from 0 1 source))

@@ -11,6 +11,7 @@ use Rattle.inc_text.specs.PhaseText.{Cell, spliced, with_trigraphs, with_new_lin
 use Rattle.inc_text.specs.Origins.{origins_with, origins_past, ends_open, IsMapped, plain, origin_from, last_from, width_at, splices_upto, cell_at, cells_at, Fits, OriginsTo, SplicesTo, ReadTo, text_from, open_text, front_byte, front_width, begins_splice, piece_of, mark_len, is_special}
 use Rattle.inc_text.proofs.PhaseLemmas.{text_byte, text_splice, text_plain, byte_lines, splice_lines, lf, count_cons, count_append, ended_by_is, without_mark_is, has_mark}
 use Rattle.inc_text.specs.declared.devices.TheConstants.{LONGEST_FILE}
+use Rattle.inc_text.specs.declared.languages.Language.{Language}
 
 -- one origin more changes nothing before it, and is the last
 origin_from-push : (d : Origin) (ms : List Origin) (m : Origin) (i : ℕ) → i < m.at → origin_from d (ms ++ m ∷ []) i ≡ origin_from d ms i
@@ -196,8 +197,8 @@ next_line l true = omega arith
 next_line l false = omega arith
 
 -- a byte of the text, where the source goes on with it
-byte_comes : (source : List ℕ) (ms : List Origin) (ss bytes : List ℕ) (at c w : ℕ) (rest : List ℕ) → ReadTo source ms ss bytes at → drop at source ≡ rest → 0 < w → at + w ≤ length source → ((line : ℕ) → text_from at line rest ≡ record { byte = c; first = at; last = at + w; line = line } ∷ text_from (at + w) (cond (eqb c 10) (line + 1) line) (drop w rest)) → count_by lf rest ≡ cond (eqb c 10) 1 0 + count_by lf (drop w rest) → ReadTo source (origins_with ms (length bytes) at w) ss (bytes ++ c ∷ []) (at + w)
-byte_comes source ms ss bytes at c w rest h is some bound gives counts =
+byte_comes : (language : Language) (source : List ℕ) (ms : List Origin) (ss bytes : List ℕ) (at c w : ℕ) (rest : List ℕ) → ReadTo language source ms ss bytes at → drop at source ≡ rest → 0 < w → at + w ≤ length source → ((line : ℕ) → text_from language at line rest ≡ record { byte = c; first = at; last = at + w; line = line } ∷ text_from language (at + w) (cond (eqb c 10) (line + 1) line) (drop w rest)) → count_by lf rest ≡ cond (eqb c 10) 1 0 + count_by lf (drop w rest) → ReadTo language source (origins_with ms (length bytes) at w) ss (bytes ++ c ∷ []) (at + w)
+byte_comes language source ms ss bytes at c w rest h is some bound gives counts =
     let n : ℕ = length bytes in
     let ms' : List Origin = origins_with ms n at w in
     let fewer : n ≤ at = h.fewer in
@@ -211,9 +212,9 @@ byte_comes source ms ss bytes at c w rest h is some bound gives counts =
     let line : ℕ = 1 + lines in
     let cell : Cell = record { byte = c; first = at; last = at + w; line = line } in
     let before : List Cell = cells_at ms ss 0 0 bytes in
-    let now : List Cell = text_from (at + w) (1 + lines') (drop (at + w) source) in
+    let now : List Cell = text_from language (at + w) (1 + lines') (drop (at + w) source) in
     let lines_on : cond {A = ℕ} (eqb c 10) (line + 1) line ≡ 1 + lines' = next_line lines (eqb c 10) ∙ ap (λ x. 1 + x) (sym grown) in
-    let goes : text_from at line (drop at source) ≡ cell ∷ now = ap (text_from at line) is ∙ (gives line ∙ (ap (λ x. cell ∷ text_from (at + w) x (drop w rest)) lines_on ∙ ap (λ r. cell ∷ text_from (at + w) (1 + lines') r) behind)) in
+    let goes : text_from language at line (drop at source) ≡ cell ∷ now = ap (text_from language at line) is ∙ (gives line ∙ (ap (λ x. cell ∷ text_from language (at + w) x (drop w rest)) lines_on ∙ ap (λ r. cell ∷ text_from language (at + w) (1 + lines') r) behind)) in
     let all_now : count_by lf (drop at source) ≡ cond (eqb c 10) 1 0 + count_by lf (drop (at + w) source) = ap (count_by lf) is ∙ (counts ∙ ap (λ r. cond (eqb c 10) 1 0 + count_by lf r) behind) in
     let all_before : lines + count_by lf (drop at source) ≡ count_by lf source = h.lines in
     record {
@@ -226,13 +227,13 @@ byte_comes source ms ss bytes at c w rest h is some bound gives counts =
       short = h.short;
     }
 
-pub byte_read : (source : List ℕ) (ms : List Origin) (ss bytes : List ℕ) (at b : ℕ) (bs : List ℕ) → ReadTo source ms ss bytes at → drop at source ≡ b ∷ bs → begins_splice (b ∷ bs) ≡ false → 0 < front_width (b ∷ bs) → at + front_width (b ∷ bs) ≤ length source → ReadTo source (origins_with ms (length bytes) at (front_width (b ∷ bs))) ss (bytes ++ front_byte (b ∷ bs) ∷ []) (at + front_width (b ∷ bs))
-byte_read source ms ss bytes at b bs h rest plainly some bound =
-    byte_comes source ms ss bytes at (front_byte (b ∷ bs)) (front_width (b ∷ bs)) (b ∷ bs) h rest some bound (λ line. text_byte at line b bs plainly) (byte_lines b bs)
+pub byte_read : (language : Language) (source : List ℕ) (ms : List Origin) (ss bytes : List ℕ) (at b : ℕ) (bs : List ℕ) → ReadTo language source ms ss bytes at → drop at source ≡ b ∷ bs → begins_splice language (b ∷ bs) ≡ false → 0 < front_width language (b ∷ bs) → at + front_width language (b ∷ bs) ≤ length source → ReadTo language source (origins_with ms (length bytes) at (front_width language (b ∷ bs))) ss (bytes ++ front_byte language (b ∷ bs) ∷ []) (at + front_width language (b ∷ bs))
+byte_read language source ms ss bytes at b bs h rest plainly some bound =
+    byte_comes language source ms ss bytes at (front_byte language (b ∷ bs)) (front_width language (b ∷ bs)) (b ∷ bs) h rest some bound (λ line. text_byte language at line b bs plainly) (byte_lines language b bs)
 
 -- a splice
-pub splice_read : (source : List ℕ) (ms : List Origin) (ss bytes : List ℕ) (at w : ℕ) (rest : List ℕ) → ReadTo source ms ss bytes at → drop at source ≡ rest → 0 < w → at + w ≤ length source → ((line : ℕ) → text_from at line rest ≡ text_from (at + w) (line + 1) (drop w rest)) → count_by lf rest ≡ 1 + count_by lf (drop w rest) → ReadTo source (origins_past ms (length bytes) at w) (ss ++ length bytes ∷ []) bytes (at + w)
-splice_read source ms ss bytes at w rest h is some bound gives counts =
+pub splice_read : (language : Language) (source : List ℕ) (ms : List Origin) (ss bytes : List ℕ) (at w : ℕ) (rest : List ℕ) → ReadTo language source ms ss bytes at → drop at source ≡ rest → 0 < w → at + w ≤ length source → ((line : ℕ) → text_from language at line rest ≡ text_from language (at + w) (line + 1) (drop w rest)) → count_by lf rest ≡ 1 + count_by lf (drop w rest) → ReadTo language source (origins_past ms (length bytes) at w) (ss ++ length bytes ∷ []) bytes (at + w)
+splice_read language source ms ss bytes at w rest h is some bound gives counts =
     let n : ℕ = length bytes in
     let fewer : n ≤ at = h.fewer in
     let small : at + w ≤ LONGEST_FILE = omega (arith, h.short, bound) in
@@ -244,8 +245,8 @@ splice_read source ms ss bytes at w rest h is some bound gives counts =
     let line : ℕ = 1 + lines in
     let lines_on : line + 1 ≡ 1 + lines' = omega arith in
     let cells : cells_at (ms ++ m ∷ []) (ss ++ n ∷ []) 0 0 bytes ≡ cells_at ms ss 0 0 bytes = cells_at-splice (ms ++ m ∷ []) ss n 0 0 bytes (omega arith) ∙ cells_at-origin ms m ss 0 0 bytes (omega arith) in
-    let now : List Cell = text_from (at + w) (1 + lines') (drop (at + w) source) in
-    let goes : text_from at line (drop at source) ≡ now = ap (text_from at line) is ∙ (gives line ∙ (ap (λ x. text_from (at + w) x (drop w rest)) lines_on ∙ ap (text_from (at + w) (1 + lines')) behind)) in
+    let now : List Cell = text_from language (at + w) (1 + lines') (drop (at + w) source) in
+    let goes : text_from language at line (drop at source) ≡ now = ap (text_from language at line) is ∙ (gives line ∙ (ap (λ x. text_from language (at + w) x (drop w rest)) lines_on ∙ ap (text_from language (at + w) (1 + lines')) behind)) in
     let all_now : count_by lf (drop at source) ≡ 1 + count_by lf (drop (at + w) source) = ap (count_by lf) is ∙ (counts ∙ ap (λ r. 1 + count_by lf r) behind) in
     let all_before : lines + count_by lf (drop at source) ≡ count_by lf source = h.lines in
     record {
@@ -262,15 +263,15 @@ splice_read source ms ss bytes at w rest h is some bound gives counts =
 pub room_from : (source : List ℕ) (at x : ℕ) (r : List ℕ) → drop at source ≡ x ∷ r → at + 1 ≤ length source
 room_from source at x r is = omega (arith, simp length-drop at (ap length is))
 
-pub run_read : (source : List ℕ) (ms : List Origin) (ss bytes : List ℕ) (at : ℕ) (xs ys : List ℕ) → ReadTo source ms ss bytes at → drop at source ≡ xs ++ ys
-    → All (λ b. is_special b ≡ false) xs → ReadTo source ms ss (bytes ++ xs) (at + length xs)
-run_read source ms ss bytes at [] ys h is all = rw (append-nil bytes, add-zero at) h
-run_read source ms ss bytes at (x ∷ xs) ys h is all =
-    let one : ReadTo source ms ss (bytes ++ x ∷ []) (at + 1) = byte_comes source ms ss bytes at x 1 (x ∷ (xs ++ ys)) h is (omega arith) (room_from source at x (xs ++ ys) is) (λ line. text_plain at line x (xs ++ ys) (All-head (λ b. is_special b ≡ false) x xs all)) (count_cons x (xs ++ ys)) in
+pub run_read : (language : Language) (source : List ℕ) (ms : List Origin) (ss bytes : List ℕ) (at : ℕ) (xs ys : List ℕ) → ReadTo language source ms ss bytes at → drop at source ≡ xs ++ ys
+    → All (λ b. is_special b ≡ false) xs → ReadTo language source ms ss (bytes ++ xs) (at + length xs)
+run_read language source ms ss bytes at [] ys h is all = rw (append-nil bytes, add-zero at) h
+run_read language source ms ss bytes at (x ∷ xs) ys h is all =
+    let one : ReadTo language source ms ss (bytes ++ x ∷ []) (at + 1) = byte_comes language source ms ss bytes at x 1 (x ∷ (xs ++ ys)) h is (omega arith) (room_from source at x (xs ++ ys) is) (λ line. text_plain language at line x (xs ++ ys) (All-head (λ b. is_special b ≡ false) x xs all)) (count_cons x (xs ++ ys)) in
     let behind : drop (at + 1) source ≡ xs ++ ys = sym (drop-drop 1 at source) ∙ ap (drop 1) is in
-    let rest : ReadTo source ms ss ((bytes ++ x ∷ []) ++ xs) (at + 1 + length xs) = run_read source ms ss (bytes ++ x ∷ []) (at + 1) xs ys one behind (All-tail (λ b. is_special b ≡ false) x xs all) in
-    let P : ℕ → Type 0 = λ p. ReadTo source ms ss (bytes ++ x ∷ xs) p in
-    let Q : List ℕ → Type 0 = λ l. ReadTo source ms ss l (at + 1 + length xs) in
+    let rest : ReadTo language source ms ss ((bytes ++ x ∷ []) ++ xs) (at + 1 + length xs) = run_read language source ms ss (bytes ++ x ∷ []) (at + 1) xs ys one behind (All-tail (λ b. is_special b ≡ false) x xs all) in
+    let P : ℕ → Type 0 = λ p. ReadTo language source ms ss (bytes ++ x ∷ xs) p in
+    let Q : List ℕ → Type 0 = λ l. ReadTo language source ms ss l (at + 1 + length xs) in
     let e : at + 1 + length xs ≡ at + suc (length xs) = omega arith in
     subst P e (subst Q (append_assoc bytes (x ∷ []) xs) rest)
 
@@ -298,15 +299,15 @@ ended end ms ss (b ∷ bs) t h =
     let says : not (eqb last 10) ≡ t = ap (λ u. u && not (eqb last 10)) (sym (lt-ltb 0 (length bytes) some)) ∙ h in
     ap (ended_by end) split ∙ (ended_by_is end before c ∙ (flip (eqb last 10) t _ _ says ∙ ap (λ l. cond t (l ++ end ∷ []) l) (sym split)))
 
-whole_text : (source : List ℕ) (ms : List Origin) (ss bytes : List ℕ) → ReadTo source ms ss bytes (length source) → cells_at ms ss 0 0 bytes ≡ open_text source
-whole_text source ms ss bytes h =
-    let none : text_from (length source) (1 + lines_in ss bytes) (drop (length source) source) ≡ [] = ap (text_from (length source) (1 + lines_in ss bytes)) (drop_all (length source) source (omega arith)) in
+whole_text : (language : Language) (source : List ℕ) (ms : List Origin) (ss bytes : List ℕ) → ReadTo language source ms ss bytes (length source) → cells_at ms ss 0 0 bytes ≡ open_text language source
+whole_text language source ms ss bytes h =
+    let none : text_from language (length source) (1 + lines_in ss bytes) (drop (length source) source) ≡ [] = ap (text_from language (length source) (1 + lines_in ss bytes)) (drop_all (length source) source (omega arith)) in
     sym (append-nil _) ∙ (ap (λ r. cells_at ms ss 0 0 bytes ++ r) (sym none) ∙ h.text)
 
-pub parts_end : (source : List ℕ) (ms : List Origin) (ss bytes : List ℕ) → ReadTo source ms ss bytes (length source) → ends_open bytes ≡ false
-    → (cells_at ms ss 0 0 bytes ≡ phase_text source) × IsMapped ms ss bytes
-parts_end source ms ss bytes h is = (
-  sym (ended (added_new_line source) ms ss bytes false is) ∙ ap (ended_by (added_new_line source)) (whole_text source ms ss bytes h),
+pub parts_end : (language : Language) (source : List ℕ) (ms : List Origin) (ss bytes : List ℕ) → ReadTo language source ms ss bytes (length source) → ends_open bytes ≡ false
+    → (cells_at ms ss 0 0 bytes ≡ phase_text language source) × IsMapped ms ss bytes
+parts_end language source ms ss bytes h is = (
+  sym (ended (added_new_line source) ms ss bytes false is) ∙ ap (ended_by (added_new_line source)) (whole_text language source ms ss bytes h),
   record {
     order = record { origins_rise = h.origins_to.rise; splices_rise = h.splices_to.rise; fits = h.origins_to.fits };
     short = omega (arith, h.fewer, h.short);
@@ -314,9 +315,9 @@ parts_end source ms ss bytes h is = (
   },
 )
 
-pub parts_open : (source : List ℕ) (ms : List Origin) (ss bytes : List ℕ) → ReadTo source ms ss bytes (length source) → ends_open bytes ≡ true
-    → (cells_at (origins_with ms (length bytes) (length source) 0) ss 0 0 (bytes ++ 10 ∷ []) ≡ phase_text source) × IsMapped (origins_with ms (length bytes) (length source) 0) ss (bytes ++ 10 ∷ [])
-parts_open source ms ss bytes h is =
+pub parts_open : (language : Language) (source : List ℕ) (ms : List Origin) (ss bytes : List ℕ) → ReadTo language source ms ss bytes (length source) → ends_open bytes ≡ true
+    → (cells_at (origins_with ms (length bytes) (length source) 0) ss 0 0 (bytes ++ 10 ∷ []) ≡ phase_text language source) × IsMapped (origins_with ms (length bytes) (length source) 0) ss (bytes ++ 10 ∷ [])
+parts_open language source ms ss bytes h is =
     let n : ℕ = length bytes in
     let at : ℕ = length source in
     let all_lines : lines_in ss bytes + count_by lf (drop at source) ≡ count_by lf source = h.lines in
@@ -329,7 +330,7 @@ parts_open source ms ss bytes h is =
     let origins : OriginsTo (origins_with ms n at 0) (n + 1) (at + 0) = origins_with-to ms n at 0 _ refl h.origins_to fewer (omega arith) (omega arith) in
     let cells : cells_at (origins_with ms n at 0) ss 0 0 (bytes ++ 10 ∷ []) ≡ with_cell ms ss bytes 10 at 0 = cells_with ms ss bytes n at 0 10 _ refl refl h.origins_to h.splices_to fewer in
     let end : with_cell ms ss bytes 10 at 0 ≡ cells_at ms ss 0 0 bytes ++ added_new_line source ∷ [] = ap (λ p. cells_at ms ss 0 0 bytes ++ record { byte = 10; first = at; last = p; line = 1 + lines_in ss bytes } ∷ []) k ∙ ap (λ l. cells_at ms ss 0 0 bytes ++ record { byte = 10; first = at; last = at; line = l } ∷ []) line in (
-      cells ∙ (end ∙ (sym (ended (added_new_line source) ms ss bytes true is) ∙ ap (ended_by (added_new_line source)) (whole_text source ms ss bytes h))),
+      cells ∙ (end ∙ (sym (ended (added_new_line source) ms ss bytes true is) ∙ ap (ended_by (added_new_line source)) (whole_text language source ms ss bytes h))),
       record {
         order = record { origins_rise = origins.rise; splices_rise = h.splices_to.rise; fits = origins.fits };
         short = omega (arith, length_push bytes 10);
@@ -339,10 +340,10 @@ parts_open source ms ss bytes h is =
 
 -- In the code `&xs[at..]` is `take (length xs - at) (drop at xs)`.
 -- a run of bytes that stand for themselves
-pub run_taken : (source : List ℕ) (ms : List Origin) (ss bytes : List ℕ) (at n : ℕ) → ReadTo source ms ss bytes at → All (λ b. is_special b ≡ false) (take n (take (length source - at) (drop at source))) → ReadTo source ms ss (bytes ++ take n (take (length source - at) (drop at source))) (at + length (take n (take (length source - at) (drop at source))))
-run_taken source ms ss bytes at n h all =
+pub run_taken : (language : Language) (source : List ℕ) (ms : List Origin) (ss bytes : List ℕ) (at n : ℕ) → ReadTo language source ms ss bytes at → All (λ b. is_special b ≡ false) (take n (take (length source - at) (drop at source))) → ReadTo language source ms ss (bytes ++ take n (take (length source - at) (drop at source))) (at + length (take n (take (length source - at) (drop at source))))
+run_taken language source ms ss bytes at n h all =
     let hay : List ℕ = take (length source - at) (drop at source) in
-    run_read source ms ss bytes at (take n hay) (drop n hay) h (sym (take_rest source at) ∙ sym (take-append-drop n hay)) all
+    run_read language source ms ss bytes at (take n hay) (drop n hay) h (sym (take_rest source at) ∙ sym (take-append-drop n hay)) all
 
 -- a piece
 byte_is : (t : Bool) (s d v c w : ℕ) → Byte c w ≡ cond t (Splice s) (Byte d v) → (t ≡ false) × (c ≡ d) × (w ≡ v)
@@ -353,25 +354,25 @@ splice_is : (t : Bool) (s d v w : ℕ) → Splice w ≡ cond t (Splice s) (Byte 
 splice_is true s d v w e = (refl, cc)
 splice_is false s d v w e = absurd (cc)
 
-pub byte_taken : (source : List ℕ) (ms : List Origin) (ss bytes : List ℕ) (at c w : ℕ) → ReadTo source ms ss bytes at → at < length source → Byte c w ≡ piece_of (take (length source - at) (drop at source)) → 0 < w → w ≤ length (take (length source - at) (drop at source)) → ReadTo source (origins_with ms (length bytes) at w) ss (bytes ++ c ∷ []) (at + w)
-byte_taken source ms ss bytes at c w h lt is some fits =
+pub byte_taken : (language : Language) (source : List ℕ) (ms : List Origin) (ss bytes : List ℕ) (at c w : ℕ) → ReadTo language source ms ss bytes at → at < length source → Byte c w ≡ piece_of language (take (length source - at) (drop at source)) → 0 < w → w ≤ length (take (length source - at) (drop at source)) → ReadTo language source (origins_with ms (length bytes) at w) ss (bytes ++ c ∷ []) (at + w)
+byte_taken language source ms ss bytes at c w h lt is some fits =
     let b : ℕ = get_or source at 0 in
     let bs : List ℕ = drop (at + 1) source in
     let rest : drop at source ≡ b ∷ bs = drop_more source at 0 lt in
     let both : take (length source - at) (drop at source) ≡ b ∷ bs = take_rest source at ∙ rest in
     let size : length (take (length source - at) (drop at source)) ≡ length source - at = ap length (take_rest source at) ∙ length-drop at source in
-    let p = byte_is (begins_splice (b ∷ bs)) _ _ _ c w (is ∙ ap piece_of both) in
-    byte_comes source ms ss bytes at c w (b ∷ bs) h rest some (omega arith) (rw (p.1, p.2) (λ line. text_byte at line b bs p.0)) (rw (p.1, p.2) (byte_lines b bs))
+    let p = byte_is (begins_splice language (b ∷ bs)) _ _ _ c w (is ∙ ap (piece_of language) both) in
+    byte_comes language source ms ss bytes at c w (b ∷ bs) h rest some (omega arith) (rw (p.1, p.2) (λ line. text_byte language at line b bs p.0)) (rw (p.1, p.2) (byte_lines language b bs))
 
-pub splice_taken : (source : List ℕ) (ms : List Origin) (ss bytes : List ℕ) (at w : ℕ) → ReadTo source ms ss bytes at → at < length source → Splice w ≡ piece_of (take (length source - at) (drop at source)) → 0 < w → w ≤ length (take (length source - at) (drop at source)) → ReadTo source (origins_past ms (length bytes) at w) (ss ++ length bytes ∷ []) bytes (at + w)
-splice_taken source ms ss bytes at w h lt is some fits =
+pub splice_taken : (language : Language) (source : List ℕ) (ms : List Origin) (ss bytes : List ℕ) (at w : ℕ) → ReadTo language source ms ss bytes at → at < length source → Splice w ≡ piece_of language (take (length source - at) (drop at source)) → 0 < w → w ≤ length (take (length source - at) (drop at source)) → ReadTo language source (origins_past ms (length bytes) at w) (ss ++ length bytes ∷ []) bytes (at + w)
+splice_taken language source ms ss bytes at w h lt is some fits =
     let b : ℕ = get_or source at 0 in
     let bs : List ℕ = drop (at + 1) source in
     let rest : drop at source ≡ b ∷ bs = drop_more source at 0 lt in
     let both : take (length source - at) (drop at source) ≡ b ∷ bs = take_rest source at ∙ rest in
     let size : length (take (length source - at) (drop at source)) ≡ length source - at = ap length (take_rest source at) ∙ length-drop at source in
-    let p = splice_is (begins_splice (b ∷ bs)) _ _ _ w (is ∙ ap piece_of both) in
-    splice_read source ms ss bytes at w (b ∷ bs) h rest some (omega arith) (rw (p.1) (λ line. text_splice at line b bs p.0)) (rw (p.1) (splice_lines b bs p.0))
+    let p = splice_is (begins_splice language (b ∷ bs)) _ _ _ w (is ∙ ap (piece_of language) both) in
+    splice_read language source ms ss bytes at w (b ∷ bs) h rest some (omega arith) (rw (p.1) (λ line. text_splice language at line b bs p.0)) (rw (p.1) (splice_lines language b bs p.0))
 
 -- the start, after the byte order mark where there is one
 origins_none : OriginsTo [] 0 0
@@ -397,11 +398,11 @@ some_mark : (t : Bool) (n : ℕ) → n ≡ cond {A = ℕ} t 3 0 → 0 < n → (t
 some_mark true n e some = (refl, e)
 some_mark false n e some = absurd (omega arith)
 
-pub start_plain : (source : List ℕ) → mark_len source ≡ 0 → length source ≤ LONGEST_FILE → ReadTo source [] [] [] 0
-start_plain source none short = record {
+pub start_plain : (language : Language) (source : List ℕ) → mark_len source ≡ 0 → length source ≤ LONGEST_FILE → ReadTo language source [] [] [] 0
+start_plain language source none short = record {
   origins_to = origins_none;
   splices_to = splices_none;
-  text = ap (λ l. spliced (with_trigraphs (with_new_lines l))) (sym (without_mark_is source ∙ cond-false _ _ _ (no_mark _ none)));
+  text = ap (λ l. spliced (with_trigraphs language (with_new_lines l))) (sym (without_mark_is source ∙ cond-false _ _ _ (no_mark _ none)));
   lines = (let none : count_by lf [] ≡ 0 = refl in omega (arith, none));
   fewer = omega arith;
   bound = omega arith;
@@ -420,15 +421,15 @@ past_mark (a ∷ b ∷ c ∷ r) h =
     let z : count_by lf (c ∷ r) ≡ 0 + count_by lf r = count_cons c r ∙ ap (λ v. cond (eqb v 10) 1 0 + count_by lf r) (eqb-true c 0xbf p.1) in
     (omega arith, omega arith)
 
-pub start_marked : (source : List ℕ) (n : ℕ) → n ≡ mark_len source → 0 < n → length source ≤ LONGEST_FILE → ReadTo source (origins_past [] 0 0 n) [] [] n
-start_marked source n is some short =
+pub start_marked : (language : Language) (source : List ℕ) (n : ℕ) → n ≡ mark_len source → 0 < n → length source ≤ LONGEST_FILE → ReadTo language source (origins_past [] 0 0 n) [] [] n
+start_marked language source n is some short =
     let p = some_mark (has_mark source) n is some in
     let past = past_mark source p.0 in
-    let P : ℕ → Type 0 = λ w. ReadTo source (origins_past [] 0 0 w) [] [] w in
+    let P : ℕ → Type 0 = λ w. ReadTo language source (origins_past [] 0 0 w) [] [] w in
     subst P (sym p.1) (record {
       origins_to = origins_skip [] 0 0 3 origins_none (omega arith) (omega arith);
       splices_to = splices_none;
-      text = ap (λ l. spliced (with_trigraphs (with_new_lines l))) (sym (without_mark_is source ∙ cond-true _ _ _ p.0));
+      text = ap (λ l. spliced (with_trigraphs language (with_new_lines l))) (sym (without_mark_is source ∙ cond-true _ _ _ p.0));
       lines = (let none : count_by lf [] ≡ 0 = refl in omega (arith, none, past.0));
       fewer = omega arith;
       bound = past.1;

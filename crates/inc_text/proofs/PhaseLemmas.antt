@@ -5,10 +5,12 @@ use Rattle.std.proofs.lemmas.List.{drop-drop}
 use Rattle.std.proofs.lemmas.List.Sums.{sum_by-cons, sum_by-append}
 use Rattle.inc_text.specs.PhaseText.{Cell, cells_from, joined, with_new_lines, with_trigraphs, spliced, without_mark, ended_by, trigraph, is_trigraph}
 use Rattle.inc_text.specs.Origins.{new_line_len, trigraph_of, front_byte, front_width, begins_splice, text_from, is_special}
+use Rattle.inc_text.specs.declared.languages.Language.{Language}
+use Rattle.inc_text.specs.declared.languages.Language.TheVariants.{C17, Extended, Gnu}
 
 -- a source after phase 1, and after phase 2
-abbrev pub replaced : ℕ → ℕ → List ℕ → List Cell
-replaced at line bs = with_trigraphs (with_new_lines (cells_from at line bs))
+abbrev pub replaced : Language → ℕ → ℕ → List ℕ → List Cell
+replaced language at line bs = with_trigraphs language (with_new_lines (cells_from at line bs))
 
 -- the first byte of a list, and what is after it
 abbrev pub head_of : List Cell → ℕ
@@ -26,10 +28,10 @@ new_lines_pass : (a : Cell) (r : List Cell) → (eqb a.byte 13 && eqb (head_of r
 new_lines_pass a [] h = refl
 new_lines_pass a (b ∷ r) h = cond-false _ _ _ h
 
-trigraphs_pass : (a : Cell) (r : List Cell) → is_trigraph a.byte (head_of r) (head_of (tail_of r)) ≡ false → with_trigraphs (a ∷ r) ≡ a ∷ with_trigraphs r
-trigraphs_pass a [] h = refl
-trigraphs_pass a (b ∷ []) h = refl
-trigraphs_pass a (b ∷ c ∷ r) h = cond-false _ _ _ h
+trigraphs_pass : (language : Language) (a : Cell) (r : List Cell) → is_trigraph language a.byte (head_of r) (head_of (tail_of r)) ≡ false → with_trigraphs language (a ∷ r) ≡ a ∷ with_trigraphs language r
+trigraphs_pass language a [] h = refl
+trigraphs_pass language a (b ∷ []) h = refl
+trigraphs_pass language a (b ∷ c ∷ r) h = cond-false _ _ _ h
 
 spliced_pass : (a : Cell) (r : List Cell) → (eqb a.byte 92 && eqb (head_of r) 10) ≡ false → spliced (a ∷ r) ≡ a ∷ spliced r
 spliced_pass a [] h = refl
@@ -56,16 +58,43 @@ given_chain false false false false false false false true i = refl
 given_chain false false false false false false false false true = refl
 given_chain false false false false false false false false false = refl
 
-trigraph-ne_lf : (c : ℕ) → eqb (trigraph c) 10 ≡ false
-trigraph-ne_lf c = given_chain (eqb c 61) (eqb c 40) (eqb c 47) (eqb c 41) (eqb c 39) (eqb c 60) (eqb c 33) (eqb c 62) (eqb c 45)
+standard-ne_lf : (c : ℕ) → eqb (trigraph C17 c) 10 ≡ false
+standard-ne_lf c = given_chain (eqb c 61) (eqb c 40) (eqb c 47) (eqb c 41) (eqb c 39) (eqb c 60) (eqb c 33) (eqb c 62) (eqb c 45)
+
+-- no trigraph stands for an LF
+pub trigraph-ne_lf : (language : Language) (c : ℕ) → eqb (trigraph language c) 10 ≡ false
+trigraph-ne_lf C17 c = standard-ne_lf c
+trigraph-ne_lf Extended c = standard-ne_lf c
+trigraph-ne_lf Gnu c = refl
+
+-- no trigraph ends in one of these
+trigraph-null : (language : Language) → trigraph language 0 ≡ 0
+trigraph-null C17 = refl
+trigraph-null Extended = refl
+trigraph-null Gnu = refl
+
+pub trigraph-line_feed : (language : Language) → trigraph language 10 ≡ 0
+trigraph-line_feed C17 = refl
+trigraph-line_feed Extended = refl
+trigraph-line_feed Gnu = refl
+
+pub trigraph-blank : (language : Language) → trigraph language 32 ≡ 0
+trigraph-blank C17 = refl
+trigraph-blank Extended = refl
+trigraph-blank Gnu = refl
+
+trigraph-return : (language : Language) → trigraph language 13 ≡ 0
+trigraph-return C17 = refl
+trigraph-return Extended = refl
+trigraph-return Gnu = refl
 
 -- a byte of the text up to source place p, and the source bs after it
-abbrev pub goes_on : ℕ → ℕ → ℕ → List ℕ → ℕ → List Cell
-goes_on at line c bs p = record { byte = c; first = at; last = p; line = line } ∷ replaced p (cond (eqb c 10) (line + 1) line) bs
+abbrev pub goes_on : Language → ℕ → ℕ → ℕ → List ℕ → ℕ → List Cell
+goes_on language at line c bs p = record { byte = c; first = at; last = p; line = line } ∷ replaced language p (cond (eqb c 10) (line + 1) line) bs
 
 -- after phase 1 a source begins with a byte c, which stands for its first w bytes
-pub record Gives (at line : ℕ) (bs : List ℕ) (c w : ℕ) : Type 0 where
-  pub cells : replaced at line bs ≡ goes_on at line c (drop w bs) (at + w)
+pub record Gives (language : Language) (at line : ℕ) (bs : List ℕ) (c w : ℕ) : Type 0 where
+  pub cells : replaced language at line bs ≡ goes_on language at line c (drop w bs) (at + w)
   pub lines : count_by lf bs ≡ cond (eqb c 10) 1 0 + count_by lf (drop w bs)
 
 pub count_cons : (b : ℕ) (bs : List ℕ) → count_by lf (b ∷ bs) ≡ cond (eqb b 10) 1 0 + count_by lf bs
@@ -75,65 +104,65 @@ pub count_append : (xs ys : List ℕ) → count_by lf (xs ++ ys) ≡ count_by lf
 count_append xs ys = sum_by-append (λ x. cond (lf x) 1 0) xs ys
 
 -- the head and the second byte of a source after the new-lines are made one
-second_of : (a : Cell) (r : List Cell) → ltb 0 (trigraph (head_of (with_new_lines (a ∷ r)))) ≡ ltb 0 (trigraph a.byte)
-second_of a [] = refl
-second_of a (b ∷ r) = second_by a b r (eqb a.byte 13 && eqb b.byte 10) refl where
-  second_by : (a b : Cell) (r : List Cell) (t : Bool) → (eqb a.byte 13 && eqb b.byte 10) ≡ t → ltb 0 (trigraph (head_of (with_new_lines (a ∷ b ∷ r)))) ≡ ltb 0 (trigraph a.byte)
-  second_by a b r true h =
-      ap (λ x. ltb 0 (trigraph (head_of x))) (cond-true (eqb a.byte 13 && eqb b.byte 10) (joined 10 a b ∷ with_new_lines r) (a ∷ with_new_lines (b ∷ r)) h) ∙ sym (ap (λ x. ltb 0 (trigraph x)) (eqb-true a.byte 13 ((and_parts _ _ h).0)))
-  second_by a b r false h =
-      ap (λ x. ltb 0 (trigraph (head_of x))) (cond-false (eqb a.byte 13 && eqb b.byte 10) (joined 10 a b ∷ with_new_lines r) (a ∷ with_new_lines (b ∷ r)) h)
+second_of : (language : Language) (a : Cell) (r : List Cell) → ltb 0 (trigraph language (head_of (with_new_lines (a ∷ r)))) ≡ ltb 0 (trigraph language a.byte)
+second_of language a [] = refl
+second_of language a (b ∷ r) = second_by language a b r (eqb a.byte 13 && eqb b.byte 10) refl where
+  second_by : (language : Language) (a b : Cell) (r : List Cell) (t : Bool) → (eqb a.byte 13 && eqb b.byte 10) ≡ t → ltb 0 (trigraph language (head_of (with_new_lines (a ∷ b ∷ r)))) ≡ ltb 0 (trigraph language a.byte)
+  second_by language a b r true h =
+      ap (λ x. ltb 0 (trigraph language (head_of x))) (cond-true (eqb a.byte 13 && eqb b.byte 10) (joined 10 a b ∷ with_new_lines r) (a ∷ with_new_lines (b ∷ r)) h) ∙ (ap (ltb 0) (trigraph-line_feed language ∙ sym (trigraph-return language)) ∙ sym (ap (λ x. ltb 0 (trigraph language x)) (eqb-true a.byte 13 ((and_parts _ _ h).0))))
+  second_by language a b r false h =
+      ap (λ x. ltb 0 (trigraph language (head_of x))) (cond-false (eqb a.byte 13 && eqb b.byte 10) (joined 10 a b ∷ with_new_lines r) (a ∷ with_new_lines (b ∷ r)) h)
 
 abbrev pub first_phase : ℕ → ℕ → List ℕ → List Cell
 first_phase at line bs = with_new_lines (cells_from at line bs)
 
-second_from : (at line z : ℕ) (zs : List ℕ) → ltb 0 (trigraph (head_of (first_phase at line (z ∷ zs)))) ≡ ltb 0 (trigraph z)
-second_from at line z zs =
-    second_of (record { byte = z; first = at; last = at + 1; line = line }) (cells_from (at + 1) (cond (eqb z 10) (line + 1) line) zs)
+second_from : (language : Language) (at line z : ℕ) (zs : List ℕ) → ltb 0 (trigraph language (head_of (first_phase at line (z ∷ zs)))) ≡ ltb 0 (trigraph language z)
+second_from language at line z zs =
+    second_of language (record { byte = z; first = at; last = at + 1; line = line }) (cells_from (at + 1) (cond (eqb z 10) (line + 1) line) zs)
 
-no_trigraph_by : (at line b y z : ℕ) (zs : List ℕ) (t : Bool) → (eqb y 13 && eqb z 10) ≡ t → ((eqb b 63 && eqb y 63) && ltb 0 (trigraph z)) ≡ false → is_trigraph b (head_of (first_phase at line (y ∷ z ∷ zs))) (head_of (tail_of (first_phase at line (y ∷ z ∷ zs)))) ≡ false
-no_trigraph_by at line b y z zs true h k =
-    ap (λ x. is_trigraph b (head_of x) (head_of (tail_of x))) (cond-true (eqb y 13 && eqb z 10) _ _ h) ∙ and_left _ _ (and_right (eqb b 63) false refl)
-no_trigraph_by at line b y z zs false h k =
-    ap (λ x. is_trigraph b (head_of x) (head_of (tail_of x))) (cond-false (eqb y 13 && eqb z 10) _ _ h) ∙ (ap (λ x. (eqb b 63 && eqb y 63) && x) (second_from (at + 1) (cond (eqb y 10) (line + 1) line) z zs) ∙ k)
+no_trigraph_by : (language : Language) (at line b y z : ℕ) (zs : List ℕ) (t : Bool) → (eqb y 13 && eqb z 10) ≡ t → ((eqb b 63 && eqb y 63) && ltb 0 (trigraph language z)) ≡ false → is_trigraph language b (head_of (first_phase at line (y ∷ z ∷ zs))) (head_of (tail_of (first_phase at line (y ∷ z ∷ zs)))) ≡ false
+no_trigraph_by language at line b y z zs true h k =
+    ap (λ x. is_trigraph language b (head_of x) (head_of (tail_of x))) (cond-true (eqb y 13 && eqb z 10) _ _ h) ∙ and_left _ _ (and_right (eqb b 63) false refl)
+no_trigraph_by language at line b y z zs false h k =
+    ap (λ x. is_trigraph language b (head_of x) (head_of (tail_of x))) (cond-false (eqb y 13 && eqb z 10) _ _ h) ∙ (ap (λ x. (eqb b 63 && eqb y 63) && x) (second_from language (at + 1) (cond (eqb y 10) (line + 1) line) z zs) ∙ k)
 
-no_trigraph : (at line b : ℕ) (bs : List ℕ) → ((eqb b 63 && eqb (get_or bs 0 0) 63) && ltb 0 (trigraph (get_or bs 1 0))) ≡ false → is_trigraph b (head_of (first_phase at line bs)) (head_of (tail_of (first_phase at line bs))) ≡ false
-no_trigraph at line b [] k = k
-no_trigraph at line b (y ∷ []) k = k
-no_trigraph at line b (y ∷ z ∷ zs) k = no_trigraph_by at line b y z zs _ refl k
+no_trigraph : (language : Language) (at line b : ℕ) (bs : List ℕ) → ((eqb b 63 && eqb (get_or bs 0 0) 63) && ltb 0 (trigraph language (get_or bs 1 0))) ≡ false → is_trigraph language b (head_of (first_phase at line bs)) (head_of (tail_of (first_phase at line bs))) ≡ false
+no_trigraph language at line b [] k = k
+no_trigraph language at line b (y ∷ []) k = k
+no_trigraph language at line b (y ∷ z ∷ zs) k = no_trigraph_by language at line b y z zs _ refl k
 
-gives_one : (at line b : ℕ) (bs : List ℕ) → (eqb b 13 && eqb (get_or bs 0 0) 10) ≡ false → ((eqb b 63 && eqb (get_or bs 0 0) 63) && ltb 0 (trigraph (get_or bs 1 0))) ≡ false → Gives at line (b ∷ bs) b 1
-gives_one at line b bs no_pair no_trigraph_is =
+gives_one : (language : Language) (at line b : ℕ) (bs : List ℕ) → (eqb b 13 && eqb (get_or bs 0 0) 10) ≡ false → ((eqb b 63 && eqb (get_or bs 0 0) 63) && ltb 0 (trigraph language (get_or bs 1 0))) ≡ false → Gives language at line (b ∷ bs) b 1
+gives_one language at line b bs no_pair no_trigraph_is =
     let next = cond (eqb b 10) (line + 1) line in
     let head : eqb b 13 && eqb (head_of (cells_from (at + 1) next bs)) 10 ≡ false = ap (λ h. eqb b 13 && eqb h 10) (head_of_cells (at + 1) next bs) ∙ no_pair in
     record {
-      cells = ap with_trigraphs (new_lines_pass (record { byte = b; first = at; last = at + 1; line = line }) (cells_from (at + 1) next bs) head) ∙ trigraphs_pass (record { byte = b; first = at; last = at + 1; line = line }) (first_phase (at + 1) next bs) (no_trigraph (at + 1) next b bs no_trigraph_is);
+      cells = ap (with_trigraphs language) (new_lines_pass (record { byte = b; first = at; last = at + 1; line = line }) (cells_from (at + 1) next bs) head) ∙ trigraphs_pass language (record { byte = b; first = at; last = at + 1; line = line }) (first_phase (at + 1) next bs) (no_trigraph language (at + 1) next b bs no_trigraph_is);
       lines = count_cons b bs;
     }
 
-gives_pair : (at line : ℕ) (bs : List ℕ) → Gives at line (13 ∷ 10 ∷ bs) 10 2
-gives_pair at line bs =
+gives_pair : (language : Language) (at line : ℕ) (bs : List ℕ) → Gives language at line (13 ∷ 10 ∷ bs) 10 2
+gives_pair language at line bs =
     let e : at + 1 + 1 ≡ at + 2 = omega arith in
     record {
-      cells = trigraphs_pass (record { byte = 10; first = at; last = at + 1 + 1; line = line }) (first_phase (at + 1 + 1) (line + 1) bs) refl ∙ ap (goes_on at line 10 bs) e;
+      cells = trigraphs_pass language (record { byte = 10; first = at; last = at + 1 + 1; line = line }) (first_phase (at + 1 + 1) (line + 1) bs) refl ∙ ap (goes_on language at line 10 bs) e;
       lines = count_cons 13 (10 ∷ bs) ∙ (ap (λ n. 0 + n) (count_cons 10 bs) ∙ omega arith);
     }
 
-gives_trigraph : (at line c : ℕ) (bs : List ℕ) → 0 < trigraph c → Gives at line (63 ∷ 63 ∷ c ∷ bs) (trigraph c) 3
-gives_trigraph at line c bs some =
-    let P : ℕ → Type 0 = λ x. 0 < trigraph x in
-    let no_lf : eqb c 10 ≡ false = ne_eqb c 10 (λ e. omega (arith, subst P e some)) in
-    let no_cr : eqb c 13 ≡ false = ne_eqb c 13 (λ e. omega (arith, subst P e some)) in
+gives_trigraph : (language : Language) (at line c : ℕ) (bs : List ℕ) → 0 < trigraph language c → Gives language at line (63 ∷ 63 ∷ c ∷ bs) (trigraph language c) 3
+gives_trigraph language at line c bs some =
+    let P : ℕ → Type 0 = λ x. 0 < trigraph language x in
+    let no_lf : eqb c 10 ≡ false = ne_eqb c 10 (λ e. omega (arith, subst P e some, trigraph-line_feed language)) in
+    let no_cr : eqb c 13 ≡ false = ne_eqb c 13 (λ e. omega (arith, subst P e some, trigraph-return language)) in
     let e : at + 1 + 1 + 1 ≡ at + 3 = omega arith in
     let next = cond (eqb c 10) (line + 1) line in
-    let same : next ≡ cond (eqb (trigraph c) 10) (line + 1) line = cond-false (eqb c 10) (line + 1) line no_lf ∙ sym (cond-false (eqb (trigraph c) 10) (line + 1) line (trigraph-ne_lf c)) in
+    let same : next ≡ cond (eqb (trigraph language c) 10) (line + 1) line = cond-false (eqb c 10) (line + 1) line no_lf ∙ sym (cond-false (eqb (trigraph language c) 10) (line + 1) line (trigraph-ne_lf language c)) in
     let first : Cell = record { byte = 63; first = at; last = at + 1; line = line } in
     let second : Cell = record { byte = 63; first = at + 1; last = at + 1 + 1; line = line } in
     let third : Cell = record { byte = c; first = at + 1 + 1; last = at + 1 + 1 + 1; line = line } in
     let rest : List Cell = cells_from (at + 1 + 1 + 1) next bs in
     record {
-      cells = ap (λ r. with_trigraphs (first ∷ second ∷ r)) (new_lines_pass third rest (and_left _ _ no_cr)) ∙ (cond-true (ltb 0 (trigraph c)) _ _ (lt-ltb 0 (trigraph c) some) ∙ (ap (λ l. record { byte = trigraph c; first = at; last = at + 1 + 1 + 1; line = line } ∷ replaced (at + 1 + 1 + 1) l bs) same ∙ ap (goes_on at line (trigraph c) bs) e));
-      lines = count_cons 63 (63 ∷ c ∷ bs) ∙ (ap (λ n. 0 + n) (count_cons 63 (c ∷ bs)) ∙ (ap (λ n. 0 + (0 + n)) (count_cons c bs) ∙ (ap (λ n. 0 + (0 + (n + count_by lf bs))) (cond-false (eqb c 10) 1 0 no_lf ∙ sym (cond-false (eqb (trigraph c) 10) 1 0 (trigraph-ne_lf c))) ∙ omega arith)));
+      cells = ap (λ r. with_trigraphs language (first ∷ second ∷ r)) (new_lines_pass third rest (and_left _ _ no_cr)) ∙ (cond-true (ltb 0 (trigraph language c)) _ _ (lt-ltb 0 (trigraph language c) some) ∙ (ap (λ l. record { byte = trigraph language c; first = at; last = at + 1 + 1 + 1; line = line } ∷ replaced language (at + 1 + 1 + 1) l bs) same ∙ ap (goes_on language at line (trigraph language c) bs) e));
+      lines = count_cons 63 (63 ∷ c ∷ bs) ∙ (ap (λ n. 0 + n) (count_cons 63 (c ∷ bs)) ∙ (ap (λ n. 0 + (0 + n)) (count_cons c bs) ∙ (ap (λ n. 0 + (0 + (n + count_by lf bs))) (cond-false (eqb c 10) 1 0 no_lf ∙ sym (cond-false (eqb (trigraph language c) 10) 1 0 (trigraph-ne_lf language c))) ∙ omega arith)));
     }
 
 -- the tests of a front, given as variables
@@ -143,40 +172,42 @@ byte_by x y t b = cond (ltb 0 (cond x 1 (cond y 2 0))) 10 (cond (ltb 0 t) t b)
 abbrev width_by : Bool → Bool → ℕ → ℕ
 width_by x y t = cond (ltb 0 (cond x 1 (cond y 2 0))) (cond x 1 (cond y 2 0)) (cond (ltb 0 t) 3 1)
 
-pair_front : (at line b : ℕ) (bs : List ℕ) → b ≡ 13 → get_or bs 0 0 ≡ 10 → Gives at line (b ∷ bs) 10 2
-pair_front at line b [] p q = absurd (omega arith)
-pair_front at line b (z ∷ zs) p q =
-    let P : ℕ → Type 0 = λ x. Gives at line (x ∷ z ∷ zs) 10 2 in
-    let Q : ℕ → Type 0 = λ x. Gives at line (13 ∷ x ∷ zs) 10 2 in
-    subst P (sym p) (subst Q (sym q) (gives_pair at line zs))
+pair_front : (language : Language) (at line b : ℕ) (bs : List ℕ) → b ≡ 13 → get_or bs 0 0 ≡ 10 → Gives language at line (b ∷ bs) 10 2
+pair_front language at line b [] p q = absurd (omega arith)
+pair_front language at line b (z ∷ zs) p q =
+    let P : ℕ → Type 0 = λ x. Gives language at line (x ∷ z ∷ zs) 10 2 in
+    let Q : ℕ → Type 0 = λ x. Gives language at line (13 ∷ x ∷ zs) 10 2 in
+    subst P (sym p) (subst Q (sym q) (gives_pair language at line zs))
 
-trigraph_front : (at line b : ℕ) (bs : List ℕ) → b ≡ 63 → get_or bs 0 0 ≡ 63 → 0 < trigraph (get_or bs 1 0) → Gives at line (b ∷ bs) (trigraph (get_or bs 1 0)) 3
-trigraph_front at line b [] p q h = absurd (omega arith)
-trigraph_front at line b (y ∷ []) p q h = absurd (omega arith)
-trigraph_front at line b (y ∷ z ∷ zs) p q h =
-    let P : ℕ → Type 0 = λ x. Gives at line (x ∷ y ∷ z ∷ zs) (trigraph z) 3 in
-    let Q : ℕ → Type 0 = λ x. Gives at line (63 ∷ x ∷ z ∷ zs) (trigraph z) 3 in
-    subst P (sym p) (subst Q (sym q) (gives_trigraph at line z zs h))
+trigraph_front : (language : Language) (at line b : ℕ) (bs : List ℕ) → b ≡ 63 → get_or bs 0 0 ≡ 63 → 0 < trigraph language (get_or bs 1 0) → Gives language at line (b ∷ bs) (trigraph language (get_or bs 1 0)) 3
+trigraph_front language at line b [] p q h = absurd (omega arith)
+trigraph_front language at line b (y ∷ []) p q h =
+    let none : trigraph language (get_or {A = ℕ} (y ∷ []) 1 0) ≡ 0 = trigraph-null language in
+    absurd (omega (arith, none, h))
+trigraph_front language at line b (y ∷ z ∷ zs) p q h =
+    let P : ℕ → Type 0 = λ x. Gives language at line (x ∷ y ∷ z ∷ zs) (trigraph language z) 3 in
+    let Q : ℕ → Type 0 = λ x. Gives language at line (63 ∷ x ∷ z ∷ zs) (trigraph language z) 3 in
+    subst P (sym p) (subst Q (sym q) (gives_trigraph language at line z zs h))
 
-other_front : (at line b : ℕ) (bs : List ℕ) (t u : Bool) → (eqb b 13 && eqb (get_or bs 0 0) 10) ≡ false → (eqb b 63 && eqb (get_or bs 0 0) 63) ≡ t → ltb 0 (trigraph (get_or bs 1 0)) ≡ u → Gives at line (b ∷ bs) (byte_by false false (cond t (trigraph (get_or bs 1 0)) 0) b) (width_by false false (cond t (trigraph (get_or bs 1 0)) 0))
-other_front at line b bs false u no_pair h k = gives_one at line b bs no_pair (and_left _ _ h)
-other_front at line b bs true false no_pair h k =
-    let P : Bool → Type 0 = λ x. Gives at line (b ∷ bs) (cond x (trigraph (get_or bs 1 0)) b) (cond x 3 1) in
-    subst P (sym k) (gives_one at line b bs no_pair (and_right _ _ k))
-other_front at line b bs true true no_pair h k =
-    let P : Bool → Type 0 = λ x. Gives at line (b ∷ bs) (cond x (trigraph (get_or bs 1 0)) b) (cond x 3 1) in
-    subst P (sym k) (trigraph_front at line b bs (eqb-true b 63 ((and_parts _ _ h).0)) (eqb-true _ 63 ((and_parts _ _ h).1)) (ltb-true _ _ k))
+other_front : (language : Language) (at line b : ℕ) (bs : List ℕ) (t u : Bool) → (eqb b 13 && eqb (get_or bs 0 0) 10) ≡ false → (eqb b 63 && eqb (get_or bs 0 0) 63) ≡ t → ltb 0 (trigraph language (get_or bs 1 0)) ≡ u → Gives language at line (b ∷ bs) (byte_by false false (cond t (trigraph language (get_or bs 1 0)) 0) b) (width_by false false (cond t (trigraph language (get_or bs 1 0)) 0))
+other_front language at line b bs false u no_pair h k = gives_one language at line b bs no_pair (and_left _ _ h)
+other_front language at line b bs true false no_pair h k =
+    let P : Bool → Type 0 = λ x. Gives language at line (b ∷ bs) (cond x (trigraph language (get_or bs 1 0)) b) (cond x 3 1) in
+    subst P (sym k) (gives_one language at line b bs no_pair (and_right _ _ k))
+other_front language at line b bs true true no_pair h k =
+    let P : Bool → Type 0 = λ x. Gives language at line (b ∷ bs) (cond x (trigraph language (get_or bs 1 0)) b) (cond x 3 1) in
+    subst P (sym k) (trigraph_front language at line b bs (eqb-true b 63 ((and_parts _ _ h).0)) (eqb-true _ 63 ((and_parts _ _ h).1)) (ltb-true _ _ k))
 
-front_by : (at line b : ℕ) (bs : List ℕ) (x y : Bool) → eqb b 10 ≡ x → (eqb b 13 && eqb (get_or bs 0 0) 10) ≡ y → Gives at line (b ∷ bs) (byte_by x y (trigraph_of (b ∷ bs)) b) (width_by x y (trigraph_of (b ∷ bs)))
-front_by at line b bs true y e h =
-    let P : ℕ → Type 0 = λ v. Gives at line (v ∷ bs) 10 1 in
-    subst P (sym (eqb-true b 10 e)) (gives_one at line 10 bs refl refl)
-front_by at line b bs false true e h = pair_front at line b bs (eqb-true b 13 ((and_parts _ _ h).0)) (eqb-true _ 10 ((and_parts _ _ h).1))
-front_by at line b bs false false e h = other_front at line b bs _ _ h refl refl
+front_by : (language : Language) (at line b : ℕ) (bs : List ℕ) (x y : Bool) → eqb b 10 ≡ x → (eqb b 13 && eqb (get_or bs 0 0) 10) ≡ y → Gives language at line (b ∷ bs) (byte_by x y (trigraph_of language (b ∷ bs)) b) (width_by x y (trigraph_of language (b ∷ bs)))
+front_by language at line b bs true y e h =
+    let P : ℕ → Type 0 = λ v. Gives language at line (v ∷ bs) 10 1 in
+    subst P (sym (eqb-true b 10 e)) (gives_one language at line 10 bs refl refl)
+front_by language at line b bs false true e h = pair_front language at line b bs (eqb-true b 13 ((and_parts _ _ h).0)) (eqb-true _ 10 ((and_parts _ _ h).1))
+front_by language at line b bs false false e h = other_front language at line b bs _ _ h refl refl
 
 -- what a source that is not empty begins with after phase 1
-pub gives_front : (at line b : ℕ) (bs : List ℕ) → Gives at line (b ∷ bs) (front_byte (b ∷ bs)) (front_width (b ∷ bs))
-gives_front at line b bs = front_by at line b bs _ _ refl refl
+pub gives_front : (language : Language) (at line b : ℕ) (bs : List ℕ) → Gives language at line (b ∷ bs) (front_byte language (b ∷ bs)) (front_width language (b ∷ bs))
+gives_front language at line b bs = front_by language at line b bs _ _ refl refl
 
 front_lf_by : (x y t u : Bool) (c b : ℕ) → eqb b 10 ≡ x → eqb c 10 ≡ false → eqb (cond (ltb 0 (cond x 1 (cond y 2 0))) 10 (cond u (cond t c 0) b)) 10 ≡ ltb 0 (cond x 1 (cond y 2 0))
 front_lf_by true y t u c b h k = refl
@@ -185,59 +216,59 @@ front_lf_by false false true true c b h k = k
 front_lf_by false false false true c b h k = refl
 front_lf_by false false t false c b h k = h
 
-front_lf : (bs : List ℕ) → eqb (front_byte bs) 10 ≡ ltb 0 (new_line_len bs)
-front_lf bs = front_lf_by _ (eqb (get_or bs 0 0) 13 && eqb (get_or bs 1 0) 10) (eqb (get_or bs 0 0) 63 && eqb (get_or bs 1 0) 63) _ (trigraph (get_or bs 2 0)) _ refl (trigraph-ne_lf (get_or bs 2 0))
+front_lf : (language : Language) (bs : List ℕ) → eqb (front_byte language bs) 10 ≡ ltb 0 (new_line_len bs)
+front_lf language bs = front_lf_by _ (eqb (get_or bs 0 0) 13 && eqb (get_or bs 1 0) 10) (eqb (get_or bs 0 0) 63 && eqb (get_or bs 1 0) 63) _ (trigraph language (get_or bs 2 0)) _ refl (trigraph-ne_lf language (get_or bs 2 0))
 
-head_of_replaced : (at line : ℕ) (bs : List ℕ) → eqb (head_of (replaced at line bs)) 10 ≡ ltb 0 (new_line_len bs)
-head_of_replaced at line [] = refl
-head_of_replaced at line (b ∷ bs) = ap (λ r. eqb (head_of r) 10) ((gives_front at line b bs).cells) ∙ front_lf (b ∷ bs)
+head_of_replaced : (language : Language) (at line : ℕ) (bs : List ℕ) → eqb (head_of (replaced language at line bs)) 10 ≡ ltb 0 (new_line_len bs)
+head_of_replaced language at line [] = refl
+head_of_replaced language at line (b ∷ bs) = ap (λ r. eqb (head_of r) 10) ((gives_front language at line b bs).cells) ∙ front_lf language (b ∷ bs)
 
 -- a source goes on with a byte of the text
-pub text_byte : (at line b : ℕ) (bs : List ℕ) → begins_splice (b ∷ bs) ≡ false → text_from at line (b ∷ bs) ≡ record { byte = front_byte (b ∷ bs); first = at; last = at + front_width (b ∷ bs); line = line } ∷ text_from (at + front_width (b ∷ bs)) (cond (eqb (front_byte (b ∷ bs)) 10) (line + 1) line) (drop (front_width (b ∷ bs)) (b ∷ bs))
-text_byte at line b bs h =
+pub text_byte : (language : Language) (at line b : ℕ) (bs : List ℕ) → begins_splice language (b ∷ bs) ≡ false → text_from language at line (b ∷ bs) ≡ record { byte = front_byte language (b ∷ bs); first = at; last = at + front_width language (b ∷ bs); line = line } ∷ text_from language (at + front_width language (b ∷ bs)) (cond (eqb (front_byte language (b ∷ bs)) 10) (line + 1) line) (drop (front_width language (b ∷ bs)) (b ∷ bs))
+text_byte language at line b bs h =
     let src = b ∷ bs in
-    let w = front_width src in
-    let next = cond (eqb (front_byte src) 10) (line + 1) line in
-    ap spliced ((gives_front at line b bs).cells) ∙ spliced_pass (record { byte = front_byte src; first = at; last = at + w; line = line }) (replaced (at + w) next (drop w src)) (ap (λ x. eqb (front_byte src) 92 && x) (head_of_replaced (at + w) next (drop w src)) ∙ h)
+    let w = front_width language src in
+    let next = cond (eqb (front_byte language src) 10) (line + 1) line in
+    ap spliced ((gives_front language at line b bs).cells) ∙ spliced_pass (record { byte = front_byte language src; first = at; last = at + w; line = line }) (replaced language (at + w) next (drop w src)) (ap (λ x. eqb (front_byte language src) 92 && x) (head_of_replaced language (at + w) next (drop w src)) ∙ h)
 
-pub byte_lines : (b : ℕ) (bs : List ℕ) → count_by lf (b ∷ bs) ≡ cond (eqb (front_byte (b ∷ bs)) 10) 1 0 + count_by lf (drop (front_width (b ∷ bs)) (b ∷ bs))
-byte_lines b bs = (gives_front 0 0 b bs).lines
+pub byte_lines : (language : Language) (b : ℕ) (bs : List ℕ) → count_by lf (b ∷ bs) ≡ cond (eqb (front_byte language (b ∷ bs)) 10) 1 0 + count_by lf (drop (front_width language (b ∷ bs)) (b ∷ bs))
+byte_lines language b bs = (gives_front language 0 0 b bs).lines
 
 -- a source that begins with a new-line
-gives_lf : (at line : ℕ) (ys : List ℕ) → ltb 0 (new_line_len ys) ≡ true → Gives at line ys 10 (new_line_len ys)
-gives_lf at line [] h = absurd (false≢true h)
-gives_lf at line (y ∷ ys) h =
-    let P : ℕ → Type 0 = λ c. Gives at line (y ∷ ys) c (front_width (y ∷ ys)) in
-    let Q : ℕ → Type 0 = λ w. Gives at line (y ∷ ys) 10 w in
-    subst Q (cond-true _ _ _ h) (subst P (cond-true _ _ _ h) (gives_front at line y ys))
+gives_lf : (language : Language) (at line : ℕ) (ys : List ℕ) → ltb 0 (new_line_len ys) ≡ true → Gives language at line ys 10 (new_line_len ys)
+gives_lf language at line [] h = absurd (false≢true h)
+gives_lf language at line (y ∷ ys) h =
+    let P : ℕ → Type 0 = λ c. Gives language at line (y ∷ ys) c (front_width language (y ∷ ys)) in
+    let Q : ℕ → Type 0 = λ w. Gives language at line (y ∷ ys) 10 w in
+    subst Q (cond-true _ _ _ h) (subst P (cond-true _ _ _ h) (gives_front language at line y ys))
 
-spliced_drops : (a : Cell) (at line : ℕ) (ys : List ℕ) → eqb a.byte 92 ≡ true → ltb 0 (new_line_len ys) ≡ true → spliced (a ∷ replaced at line ys) ≡ text_from (at + new_line_len ys) (line + 1) (drop (new_line_len ys) ys)
-spliced_drops a at line ys h k =
-    ap (λ r. spliced (a ∷ r)) ((gives_lf at line ys k).cells) ∙ cond-true (eqb a.byte 92 && true) _ _ (and_from _ _ h refl)
+spliced_drops : (language : Language) (a : Cell) (at line : ℕ) (ys : List ℕ) → eqb a.byte 92 ≡ true → ltb 0 (new_line_len ys) ≡ true → spliced (a ∷ replaced language at line ys) ≡ text_from language (at + new_line_len ys) (line + 1) (drop (new_line_len ys) ys)
+spliced_drops language a at line ys h k =
+    ap (λ r. spliced (a ∷ r)) ((gives_lf language at line ys k).cells) ∙ cond-true (eqb a.byte 92 && true) _ _ (and_from _ _ h refl)
 
 not_lf : (c : ℕ) → eqb c 92 ≡ true → eqb c 10 ≡ false
 not_lf c h = ap (λ x. eqb x 10) (eqb-true c 92 h)
 
 -- or with a splice, and then as if the source began after it
-pub text_splice : (at line b : ℕ) (bs : List ℕ) → begins_splice (b ∷ bs) ≡ true → text_from at line (b ∷ bs) ≡ text_from (at + (front_width (b ∷ bs) + new_line_len (drop (front_width (b ∷ bs)) (b ∷ bs)))) (line + 1) (drop (front_width (b ∷ bs) + new_line_len (drop (front_width (b ∷ bs)) (b ∷ bs))) (b ∷ bs))
-text_splice at line b bs h =
+pub text_splice : (language : Language) (at line b : ℕ) (bs : List ℕ) → begins_splice language (b ∷ bs) ≡ true → text_from language at line (b ∷ bs) ≡ text_from language (at + (front_width language (b ∷ bs) + new_line_len (drop (front_width language (b ∷ bs)) (b ∷ bs)))) (line + 1) (drop (front_width language (b ∷ bs) + new_line_len (drop (front_width language (b ∷ bs)) (b ∷ bs))) (b ∷ bs))
+text_splice language at line b bs h =
     let src : List ℕ = b ∷ bs in
-    let w : ℕ = front_width src in
+    let w : ℕ = front_width language src in
     let n : ℕ = new_line_len (drop w src) in
-    let parts = and_parts (eqb (front_byte src) 92) (ltb 0 n) h in
-    let a : Cell = record { byte = front_byte src; first = at; last = at + w; line = line } in
-    ap spliced ((gives_front at line b bs).cells) ∙ (ap (λ l. spliced (a ∷ replaced (at + w) l (drop w src))) (cond-false (eqb (front_byte src) 10) (line + 1) line (not_lf _ parts.0)) ∙ (spliced_drops a (at + w) line (drop w src) parts.0 parts.1 ∙ (ap (λ r. text_from (at + w + n) (line + 1) r) (drop-drop n w src) ∙ ap (λ p. text_from p (line + 1) (drop (w + n) src)) (add_assoc at w n))))
+    let parts = and_parts (eqb (front_byte language src) 92) (ltb 0 n) h in
+    let a : Cell = record { byte = front_byte language src; first = at; last = at + w; line = line } in
+    ap spliced ((gives_front language at line b bs).cells) ∙ (ap (λ l. spliced (a ∷ replaced language (at + w) l (drop w src))) (cond-false (eqb (front_byte language src) 10) (line + 1) line (not_lf _ parts.0)) ∙ (spliced_drops language a (at + w) line (drop w src) parts.0 parts.1 ∙ (ap (λ r. text_from language (at + w + n) (line + 1) r) (drop-drop n w src) ∙ ap (λ p. text_from language p (line + 1) (drop (w + n) src)) (add_assoc at w n))))
 
-pub splice_lines : (b : ℕ) (bs : List ℕ) → begins_splice (b ∷ bs) ≡ true → count_by lf (b ∷ bs) ≡ 1 + count_by lf (drop (front_width (b ∷ bs) + new_line_len (drop (front_width (b ∷ bs)) (b ∷ bs))) (b ∷ bs))
-splice_lines b bs h =
+pub splice_lines : (language : Language) (b : ℕ) (bs : List ℕ) → begins_splice language (b ∷ bs) ≡ true → count_by lf (b ∷ bs) ≡ 1 + count_by lf (drop (front_width language (b ∷ bs) + new_line_len (drop (front_width language (b ∷ bs)) (b ∷ bs))) (b ∷ bs))
+splice_lines language b bs h =
     let src : List ℕ = b ∷ bs in
-    let w : ℕ = front_width src in
+    let w : ℕ = front_width language src in
     let n : ℕ = new_line_len (drop w src) in
-    let parts = and_parts (eqb (front_byte src) 92) (ltb 0 n) h in
-    let e : cond {A = ℕ} (eqb (front_byte src) 10) 1 0 ≡ 0 = cond-false {A = ℕ} (eqb (front_byte src) 10) 1 0 (not_lf _ parts.0) in
-    let f : count_by lf (drop w src) ≡ 1 + count_by lf (drop n (drop w src)) = (gives_lf 0 0 (drop w src) parts.1).lines in
+    let parts = and_parts (eqb (front_byte language src) 92) (ltb 0 n) h in
+    let e : cond {A = ℕ} (eqb (front_byte language src) 10) 1 0 ≡ 0 = cond-false {A = ℕ} (eqb (front_byte language src) 10) 1 0 (not_lf _ parts.0) in
+    let f : count_by lf (drop w src) ≡ 1 + count_by lf (drop n (drop w src)) = (gives_lf language 0 0 (drop w src) parts.1).lines in
     let g : count_by lf (drop n (drop w src)) ≡ count_by lf (drop (w + n) src) = ap (count_by lf) (drop-drop n w src) in
-    let k : count_by lf src ≡ cond (eqb (front_byte src) 10) 1 0 + count_by lf (drop w src) = byte_lines b bs in
+    let k : count_by lf src ≡ cond (eqb (front_byte language src) 10) 1 0 + count_by lf (drop w src) = byte_lines language b bs in
     omega arith
 
 -- a byte that begins no sequence stands for itself
@@ -245,19 +276,19 @@ plain_front_by : (b : ℕ) (x y t : Bool) (v : ℕ) → eqb b 10 ≡ x → y ≡
 plain_front_by b true y t v h k m = (sym (eqb-true b 10 h), refl)
 plain_front_by b false y t v h k m = rw (k, m) (refl, refl)
 
-plain_front : (b : ℕ) (bs : List ℕ) → is_special b ≡ false → (front_byte (b ∷ bs) ≡ b) × (front_width (b ∷ bs) ≡ 1)
-plain_front b bs h =
+plain_front : (language : Language) (b : ℕ) (bs : List ℕ) → is_special b ≡ false → (front_byte language (b ∷ bs) ≡ b) × (front_width language (b ∷ bs) ≡ 1)
+plain_front language b bs h =
     let p = or_parts (eqb b 13 || eqb b 63) (eqb b 92) h in
     let q = or_parts (eqb b 13) (eqb b 63) p.0 in
     plain_front_by b _ _ _ _ refl (and_left _ _ q.0) (and_left _ _ q.1)
 
-pub text_plain : (at line b : ℕ) (bs : List ℕ) → is_special b ≡ false → text_from at line (b ∷ bs) ≡ record { byte = b; first = at; last = at + 1; line = line } ∷ text_from (at + 1) (cond (eqb b 10) (line + 1) line) bs
-text_plain at line b bs h =
-    let p = plain_front b bs h in
+pub text_plain : (language : Language) (at line b : ℕ) (bs : List ℕ) → is_special b ≡ false → text_from language at line (b ∷ bs) ≡ record { byte = b; first = at; last = at + 1; line = line } ∷ text_from language (at + 1) (cond (eqb b 10) (line + 1) line) bs
+text_plain language at line b bs h =
+    let p = plain_front language b bs h in
     let q = or_parts (eqb b 13 || eqb b 63) (eqb b 92) h in
-    let no_splice : begins_splice (b ∷ bs) ≡ false = ap (λ c. eqb c 92 && ltb 0 (new_line_len (drop (front_width (b ∷ bs)) (b ∷ bs)))) p.0 ∙ and_left _ _ q.1 in
-    let F : ℕ → ℕ → List Cell = λ c w. record { byte = c; first = at; last = at + w; line = line } ∷ text_from (at + w) (cond (eqb c 10) (line + 1) line) (drop w (b ∷ bs)) in
-    text_byte at line b bs no_splice ∙ (ap (λ c. F c (front_width (b ∷ bs))) p.0 ∙ ap (λ w. F b w) p.1)
+    let no_splice : begins_splice language (b ∷ bs) ≡ false = ap (λ c. eqb c 92 && ltb 0 (new_line_len (drop (front_width language (b ∷ bs)) (b ∷ bs)))) p.0 ∙ and_left _ _ q.1 in
+    let F : ℕ → ℕ → List Cell = λ c w. record { byte = c; first = at; last = at + w; line = line } ∷ text_from language (at + w) (cond (eqb c 10) (line + 1) line) (drop w (b ∷ bs)) in
+    text_byte language at line b bs no_splice ∙ (ap (λ c. F c (front_width language (b ∷ bs))) p.0 ∙ ap (λ w. F b w) p.1)
 
 -- without the byte order mark
 abbrev pub has_mark : List ℕ → Bool

@@ -6,6 +6,8 @@ use Rattle.inc_text.specs.PhaseText.{Cell, cells_from, joined, without_mark, wit
 use Rattle.inc_text.specs.Origins.{open_text}
 use Rattle.inc_text.specs.TextLaws.{line_behind, AreLinesFrom}
 use Rattle.inc_text.proofs.LawLemmas.{open_text-within}
+use Rattle.inc_text.proofs.PhaseLemmas.{trigraph-ne_lf}
+use Rattle.inc_text.specs.declared.languages.Language.{Language}
 
 lower : (line least : ℕ) (cells : List Cell) → line ≤ least → AreLinesFrom least cells → AreLinesFrom line cells
 lower line least [] le h = tt
@@ -37,31 +39,17 @@ ascend_new_lines line (a ∷ b ∷ r) h =
     (h.0, ascend_new_lines (a.line + 1) r (lower (a.line + 1) (line_behind b) r least h.1.1)))
     (λ _. (h.0, ascend_new_lines (line_behind a) (b ∷ r) h.1))
 
--- no trigraph stands for an LF
-trigraph-no_line_feed : (c : ℕ) → eqb (trigraph c) 10 ≡ false
-trigraph-no_line_feed c =
-    let P : ℕ → Type 0 = λ x. eqb x 10 ≡ false in
-    cond_both (eqb c 61) 35 _ P (λ _. refl) (λ _.
-    cond_both (eqb c 40) 91 _ P (λ _. refl) (λ _.
-    cond_both (eqb c 47) 92 _ P (λ _. refl) (λ _.
-    cond_both (eqb c 41) 93 _ P (λ _. refl) (λ _.
-    cond_both (eqb c 39) 94 _ P (λ _. refl) (λ _.
-    cond_both (eqb c 60) 123 _ P (λ _. refl) (λ _.
-    cond_both (eqb c 33) 124 _ P (λ _. refl) (λ _.
-    cond_both (eqb c 62) 125 _ P (λ _. refl) (λ _.
-    cond_both (eqb c 45) 126 0 P (λ _. refl) (λ _. refl)))))))))
-
-ascend_trigraphs : (line : ℕ) (cells : List Cell) → AreLinesFrom line cells → AreLinesFrom line (with_trigraphs cells)
-ascend_trigraphs line [] h = h
-ascend_trigraphs line (a ∷ []) h = h
-ascend_trigraphs line (a ∷ b ∷ []) h = h
-ascend_trigraphs line (a ∷ b ∷ c ∷ r) h =
-    let whole : Cell = joined (trigraph c.byte) a c in
-    let same : line_behind whole ≡ a.line = cond-false (eqb (trigraph c.byte) 10) (a.line + 1) a.line (trigraph-no_line_feed c.byte) in
+ascend_trigraphs : (language : Language) (line : ℕ) (cells : List Cell) → AreLinesFrom line cells → AreLinesFrom line (with_trigraphs language cells)
+ascend_trigraphs language line [] h = h
+ascend_trigraphs language line (a ∷ []) h = h
+ascend_trigraphs language line (a ∷ b ∷ []) h = h
+ascend_trigraphs language line (a ∷ b ∷ c ∷ r) h =
+    let whole : Cell = joined (trigraph language c.byte) a c in
+    let same : line_behind whole ≡ a.line = cond-false (eqb (trigraph language c.byte) 10) (a.line + 1) a.line (trigraph-ne_lf language c.byte) in
     let least : line_behind whole ≤ line_behind c = omega (arith, same, h.1.0, h.1.1.0, line_behind-least a, line_behind-least b, line_behind-least c) in
-    cond_both (is_trigraph a.byte b.byte c.byte) (whole ∷ with_trigraphs r) (a ∷ with_trigraphs (b ∷ c ∷ r)) (AreLinesFrom line)
-    (λ _. (h.0, ascend_trigraphs (line_behind whole) r (lower (line_behind whole) (line_behind c) r least h.1.1.1)))
-    (λ _. (h.0, ascend_trigraphs (line_behind a) (b ∷ c ∷ r) h.1))
+    cond_both (is_trigraph language a.byte b.byte c.byte) (whole ∷ with_trigraphs language r) (a ∷ with_trigraphs language (b ∷ c ∷ r)) (AreLinesFrom line)
+    (λ _. (h.0, ascend_trigraphs language (line_behind whole) r (lower (line_behind whole) (line_behind c) r least h.1.1.1)))
+    (λ _. (h.0, ascend_trigraphs language (line_behind a) (b ∷ c ∷ r) h.1))
 
 ascend_spliced : (line : ℕ) (cells : List Cell) → AreLinesFrom line cells → AreLinesFrom line (spliced cells)
 ascend_spliced line [] h = h
@@ -82,6 +70,6 @@ ascend_ended end line (a ∷ []) below h =
 ascend_ended end line (a ∷ b ∷ r) below h =
     (h.0, ascend_ended end (line_behind a) (b ∷ r) (All-tail (λ (c : Cell). c.line ≤ end.line) a (b ∷ r) below) h.1)
 
-pub phase_text-ascends : (source : List ℕ) → AreLinesFrom 1 (phase_text source)
-phase_text-ascends source =
-    ascend_ended (added_new_line source) 1 (open_text source) (open_text-within source) (ascend_spliced 1 _ (ascend_trigraphs 1 _ (ascend_new_lines 1 _ (ascend_without_mark 1 _ (ascend_from 0 1 source)))))
+pub phase_text-ascends : (language : Language) (source : List ℕ) → AreLinesFrom 1 (phase_text language source)
+phase_text-ascends language source =
+    ascend_ended (added_new_line source) 1 (open_text language source) (open_text-within language source) (ascend_spliced 1 _ (ascend_trigraphs language 1 _ (ascend_new_lines 1 _ (ascend_without_mark 1 _ (ascend_from 0 1 source)))))

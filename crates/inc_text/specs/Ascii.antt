@@ -49,6 +49,10 @@ quotation_mark = 34
 abbrev pub hash : ℕ
 hash = 35
 
+-- b'$'
+abbrev pub dollar : ℕ
+dollar = 36
+
 -- b'%'
 abbrev pub percent : ℕ
 percent = 37

@@ -7,3 +7,4 @@ pub mod Wrapped
 pub mod Keys
 pub mod Flags
 pub mod LineFeeds
+pub mod Languages

@@ -12,6 +12,7 @@ use Rattle.inc_text.specs.declared.source_pieces.SourcePiece.TheVariants.{Byte, 
 use Rattle.inc_text.specs.PhaseText.{Cell, range_and_line, trigraph, cells_from, without_mark, with_new_lines, with_trigraphs, spliced, longest_text}
 use Rattle.inc_text.specs.declared.devices.TheConstants.{LONGEST_FILE}
 use Rattle.memchr.specs.Find.{is_byte3}
+use Rattle.inc_text.specs.declared.languages.Language.{Language}
 
 -- what holds before the first origin: each byte stands for itself
 abbrev pub plain : Origin
@@ -123,25 +124,25 @@ abbrev pub new_line_len : List ℕ → ℕ
 new_line_len bs = if slice_index bs 0 == line_feed then 1 else if (slice_index bs 0 == carriage_return) && (slice_index bs 1 == line_feed) then 2 else 0
 
 -- what a trigraph at the front of a source is replaced by; 0 where there is none
-abbrev pub trigraph_of : List ℕ → ℕ
-trigraph_of bs = if (slice_index bs 0 == question_mark) && (slice_index bs 1 == question_mark) then trigraph (slice_index bs 2) else 0
+abbrev pub trigraph_of : Language → List ℕ → ℕ
+trigraph_of language bs = if (slice_index bs 0 == question_mark) && (slice_index bs 1 == question_mark) then trigraph language (slice_index bs 2) else 0
 
 -- the byte that a source begins with after phase 1, and how many bytes of the source it stands for
-abbrev pub front_byte : List ℕ → ℕ
-front_byte bs = if nat_lt 0 (new_line_len bs) then 10 else if nat_lt 0 (trigraph_of bs) then trigraph_of bs else slice_index bs 0
+abbrev pub front_byte : Language → List ℕ → ℕ
+front_byte language bs = if nat_lt 0 (new_line_len bs) then 10 else if nat_lt 0 (trigraph_of language bs) then trigraph_of language bs else slice_index bs 0
 
-abbrev pub front_width : List ℕ → ℕ
-front_width bs = if nat_lt 0 (new_line_len bs) then new_line_len bs else if nat_lt 0 (trigraph_of bs) then 3 else 1
+abbrev pub front_width : Language → List ℕ → ℕ
+front_width language bs = if nat_lt 0 (new_line_len bs) then new_line_len bs else if nat_lt 0 (trigraph_of language bs) then 3 else 1
 
 -- whether a source begins with a `\` and a new-line
-abbrev pub begins_splice : List ℕ → Bool
-begins_splice bs = (front_byte bs == backslash) && nat_lt 0 (new_line_len (drop (front_width bs) bs))
+abbrev pub begins_splice : Language → List ℕ → Bool
+begins_splice language bs = (front_byte language bs == backslash) && nat_lt 0 (new_line_len (drop (front_width language bs) bs))
 
 -- what a source goes on with
-abbrev pub piece_of : List ℕ → SourcePiece
-piece_of bs =
-    if begins_splice bs then Splice (front_width bs + new_line_len (drop (front_width bs) bs))
-    else Byte (front_byte bs) (front_width bs)
+abbrev pub piece_of : Language → List ℕ → SourcePiece
+piece_of language bs =
+    if begins_splice language bs then Splice (front_width language bs + new_line_len (drop (front_width language bs) bs))
+    else Byte (front_byte language bs) (front_width language bs)
 
 -- origins of a text of n bytes, whose next byte stands for the source bytes from `at` on
 pub record OriginsTo (origins : List Origin) (n at : ℕ) : Type 0 where
@@ -157,19 +158,19 @@ pub record SplicesTo (splices : List ℕ) (n : ℕ) : Type 0 where
   pub within : All (λ (s : ℕ). s ≤ n) splices
 
 -- the text after phase 2 of a source whose first byte is byte `at` of a file, on a line
-abbrev pub text_from : ℕ → ℕ → List ℕ → List Cell
-text_from at line source = spliced (with_trigraphs (with_new_lines (cells_from at line source)))
+abbrev pub text_from : Language → ℕ → ℕ → List ℕ → List Cell
+text_from language at line source = spliced (with_trigraphs language (with_new_lines (cells_from at line source)))
 
 -- the text of a source before a new-line is added at its end
-abbrev pub open_text : List ℕ → List Cell
-open_text source = spliced (with_trigraphs (with_new_lines (without_mark (cells_from 0 1 source))))
+abbrev pub open_text : Language → List ℕ → List Cell
+open_text language source = spliced (with_trigraphs language (with_new_lines (without_mark (cells_from 0 1 source))))
 
 -- what is known of the parts of a text once its source is read up to place `at`
-pub record ReadTo (source : List ℕ) (origins : List Origin) (splices bytes : List ℕ) (at : ℕ) : Type 0 where
+pub record ReadTo (language : Language) (source : List ℕ) (origins : List Origin) (splices bytes : List ℕ) (at : ℕ) : Type 0 where
   pub origins_to : OriginsTo origins (length bytes) at
   pub splices_to : SplicesTo splices (length bytes)
-  pub text : cells_at origins splices 0 0 bytes ++ text_from at (1 + (count_by (λ b. b == line_feed) bytes + length splices)) (drop at source)
-      ≡ open_text source
+  pub text : cells_at origins splices 0 0 bytes ++ text_from language at (1 + (count_by (λ b. b == line_feed) bytes + length splices)) (drop at source)
+      ≡ open_text language source
   pub lines : count_by (λ b. b == line_feed) bytes + length splices + count_by (λ b. b == line_feed) (drop at source)
       ≡ count_by (λ b. b == line_feed) source
   pub fewer : length bytes ≤ at
@@ -178,9 +179,9 @@ pub record ReadTo (source : List ℕ) (origins : List Origin) (splices bytes : L
 
 -- what is known where a source becomes its text in its own memory: of its room the first `len` bytes are the text of what is read, up to
 -- place `at`, and those from there on are the source's
-pub record IsSpliced (source : List ℕ) (origins : List Origin) (splices room : List ℕ) (len at : ℕ) : Type 0 where
+pub record IsSpliced (language : Language) (source : List ℕ) (origins : List Origin) (splices room : List ℕ) (len at : ℕ) : Type 0 where
   -- the text of what is read
-  pub read : ReadTo source origins splices (take len room) at
+  pub read : ReadTo language source origins splices (take len room) at
   -- the bytes of the source that are not read yet
   pub rest : drop at room ≡ drop at source
   -- the room is that of the source

@@ -1,9 +1,11 @@
 -- Translation phases 1 and 2 (ISO/IEC 9899:2018, 5.1.1.2 and 5.2.1.1): the text that is left once trigraphs are
 -- replaced and lines are spliced. Each step is a map on the whole list. A byte is a number, LF is 10.
--- Choices of this profile: the byte order mark, CR LF, and the new-line that is added at the end.
+-- Choices of this profile: the byte order mark, CR LF, and the new-line that is added at the end. GNU C has no trigraphs.
 use Rattle.std.specs.Prelude.{ℕ, ◌+◌, ◌==◌, ◌&&◌, Bool, List, [], ◌∷◌, if◌then◌else◌, length, map, count_by, nat_lt}
 use Rattle.inc_text.specs.Ascii.{apostrophe, backslash, caret, carriage_return, close_brace, close_bracket, close_parenthesis, equals, exclamation_mark, greater_than, hash, less_than, line_feed, minus, open_brace, open_bracket, open_parenthesis, question_mark, slash, tilde, vertical_bar}
 use Rattle.inc_text.specs.declared.devices.TheConstants.{LONGEST_FILE}
+use Rattle.inc_text.specs.declared.languages.Language.{Language}
+use Rattle.inc_text.specs.declared.languages.Language.TheVariants.{Gnu}
 
 -- a byte of the text, the source bytes that it stands for (from first up to last, last excluded), and their physical line
 pub record Cell : Type 0 where
@@ -38,9 +40,10 @@ with_new_lines (a ∷ b ∷ rest) =
     if (a.byte == carriage_return) && (b.byte == line_feed) then joined line_feed a b ∷ with_new_lines rest else a ∷ with_new_lines (b ∷ rest)
 with_new_lines cells = cells
 
--- what `??` and this byte are replaced by: = ( / ) ' < ! > - give # [ \ ] ^ { | } ~; 0 where that is no trigraph
-abbrev pub trigraph : ℕ → ℕ
-trigraph c =
+-- what `??` and this byte are replaced by: = ( / ) ' < ! > - give # [ \ ] ^ { | } ~; 0 where that is no trigraph, as none is in GNU C
+abbrev pub trigraph : Language → ℕ → ℕ
+trigraph Gnu c = 0
+trigraph _ c =
     if c == equals then hash else
     if c == open_parenthesis then open_bracket else
     if c == slash then backslash else
@@ -51,15 +54,15 @@ trigraph c =
     if c == greater_than then close_brace else
     if c == minus then tilde else 0
 
-abbrev pub is_trigraph : ℕ → ℕ → ℕ → Bool
-is_trigraph a b c = (a == question_mark) && (b == question_mark) && nat_lt 0 (trigraph c)
+abbrev pub is_trigraph : Language → ℕ → ℕ → ℕ → Bool
+is_trigraph language a b c = (a == question_mark) && (b == question_mark) && nat_lt 0 (trigraph language c)
 
 -- with trigraphs replaced, from left to right
-abbrev pub with_trigraphs : List Cell → List Cell
-with_trigraphs (a ∷ b ∷ c ∷ rest) =
-    if is_trigraph a.byte b.byte c.byte then joined (trigraph c.byte) a c ∷ with_trigraphs rest
-    else a ∷ with_trigraphs (b ∷ c ∷ rest)
-with_trigraphs cells = cells
+abbrev pub with_trigraphs : Language → List Cell → List Cell
+with_trigraphs language (a ∷ b ∷ c ∷ rest) =
+    if is_trigraph language a.byte b.byte c.byte then joined (trigraph language c.byte) a c ∷ with_trigraphs language rest
+    else a ∷ with_trigraphs language (b ∷ c ∷ rest)
+with_trigraphs language cells = cells
 
 -- without each `\` that a new-line follows, and that new-line, in one pass
 abbrev pub spliced : List Cell → List Cell
@@ -78,9 +81,9 @@ added_new_line source =
     record { byte = line_feed; first = length source; last = length source; line = 1 + count_by (λ b. b == line_feed) source }
 
 -- the text of a source
-abbrev pub phase_text : List ℕ → List Cell
-phase_text source =
-    ended_by (added_new_line source) (spliced (with_trigraphs (with_new_lines (without_mark (cells_from 0 1 source)))))
+abbrev pub phase_text : Language → List ℕ → List Cell
+phase_text language source =
+    ended_by (added_new_line source) (spliced (with_trigraphs language (with_new_lines (without_mark (cells_from 0 1 source)))))
 
 -- a text has at most one byte more than its source: the LF that is missing at the source's end
 abbrev pub longest_text : ℕ

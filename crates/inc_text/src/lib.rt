@@ -6,6 +6,7 @@ mod cursors;
 mod devices;
 mod flags;
 mod keys;
+mod languages;
 pub mod laws;
 mod line_feeds;
 mod lists;
@@ -22,5 +23,6 @@ pub use devices::{
 };
 pub use flags::{flag_at, set_flag};
 pub use keys::{Key, KeyRef, SeededState};
+pub use languages::Language;
 pub use lists::Items;
 pub use phases::{Text, TextFault, splice, splice_owned};

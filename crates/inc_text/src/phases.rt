@@ -5,6 +5,7 @@ ghost use Rattle.inc_text.specs.PhaseText.{Cell, phase_text, bytes_of, is_too_lo
 
 use crate::cursors::Cursor;
 use crate::devices::LONGEST_FILE;
+use crate::languages::Language;
 use crate::line_feeds::{count_blocks, line_feeds_before};
 use crate::origins::{origins_to, range_by, splices_to};
 use crate::splicing::{MappedBytes, splice_bytes};
@@ -134,10 +135,10 @@ fn is_too_long(source: &[u8]) -> bool
 }
 
 /// The text of a source after phases 1 and 2: without a byte order mark EF BB BF, with one new-line for CR LF, with
-/// trigraphs replaced (5.2.1.1) and lines spliced, and ended by a new-line unless it is empty. The byte order mark,
+/// trigraphs replaced (5.2.1.1; not in GNU C) and lines spliced, and ended by a new-line unless it is empty. The byte order mark,
 /// CR LF and the last new-line are chosen here.
-pub fn splice(alloc: Global, source: &[u8]) -> Result<Text, TextFault>
-    ensures text { IfOk result (λ text. text ≡ phase_text source.now) }
+pub fn splice(alloc: Global, source: &[u8], language: Language) -> Result<Text, TextFault>
+    ensures text { IfOk result (λ text. text ≡ phase_text language source.now) }
     ensures too_long { IsErrOf result TextFault.TooLong ↔ IsTrue (is_too_long source.now) }
 {
     if is_too_long(source) {
@@ -145,19 +146,19 @@ pub fn splice(alloc: Global, source: &[u8]) -> Result<Text, TextFault>
     }
     let mut bytes = Vec::with_capacity(alloc, source.len() + 1)?;
     bytes.extend_from_slice(source)?;
-    splice_owned(alloc, bytes)
+    splice_owned(alloc, bytes, language)
 }
 
 /// The same of a source that is handed over: its memory becomes the text's, and no byte is moved before the first that is dropped or
 /// replaced. Room for one byte more spares a copy where a new-line is added.
-pub fn splice_owned(alloc: Global, source: Vec<u8>) -> Result<Text, TextFault>
-    ensures text { IfOk result (λ text. text ≡ phase_text source.items) }
+pub fn splice_owned(alloc: Global, source: Vec<u8>, language: Language) -> Result<Text, TextFault>
+    ensures text { IfOk result (λ text. text ≡ phase_text language source.items) }
     ensures too_long { IsErrOf result TextFault.TooLong ↔ IsTrue (is_too_long source.items) }
 {
     if is_too_long(&source) {
         return Err(TextFault::TooLong);
     }
-    let parts = splice_bytes(alloc, source)?;
+    let parts = splice_bytes(alloc, source, language)?;
     let counts = count_blocks(alloc, &parts.bytes)?;
     Ok(Text { parts, counts })
 }

@@ -3,6 +3,8 @@ ghost use Rattle.std.specs.Prelude.{◌≡◌, ◌<◌, ◌≤◌, length};
 ghost use Rattle.inc_text.specs.Origins.{new_line_len, trigraph_of, piece_of, width_of};
 ghost use Rattle.inc_text.specs.PhaseText.{trigraph};
 
+use crate::languages::Language;
+
 /// What a source goes on with.
 #[derive(Clone, Copy)]
 pub enum SourcePiece {
@@ -24,9 +26,19 @@ fn new_line_len(source: &[u8]) -> usize
     }
 }
 
-/// What `??` and this byte are replaced by (ISO/IEC 9899:2018, 5.2.1.1); 0 where that is no trigraph.
-fn trigraph(third: u8) -> u8
-    ensures { result ≡ trigraph third }
+/// What `??` and this byte are replaced by (ISO/IEC 9899:2018, 5.2.1.1); 0 where that is no trigraph, as none is in GNU C.
+fn trigraph(language: Language, third: u8) -> u8
+    ensures { result ≡ trigraph language third }
+{
+    match language {
+        Language::C17 | Language::Extended => standard_trigraph(third),
+        Language::Gnu => 0,
+    }
+}
+
+/// The same in the languages that have trigraphs.
+fn standard_trigraph(third: u8) -> u8
+    ensures { result ≡ trigraph Language.C17 third }
 {
     match third {
         b'=' => b'#',
@@ -43,25 +55,25 @@ fn trigraph(third: u8) -> u8
 }
 
 /// What the trigraph at the front is replaced by; 0 where there is none.
-fn trigraph_of(source: &[u8]) -> u8
-    ensures value { result ≡ trigraph_of source.now }
+fn trigraph_of(language: Language, source: &[u8]) -> u8
+    ensures value { result ≡ trigraph_of language source.now }
     ensures within { 0 < result → 3 ≤ length source.now }
 {
     match source {
-        [b'?', b'?', third, ..] => trigraph(*third),
+        [b'?', b'?', third, ..] => trigraph(language, *third),
         _ => 0,
     }
 }
 
 /// What a source that is not empty goes on with.
-pub fn piece_of(source: &[u8]) -> SourcePiece
+pub fn piece_of(language: Language, source: &[u8]) -> SourcePiece
     requires { 0 < length source.now }
-    ensures value { result ≡ piece_of source.now }
+    ensures value { result ≡ piece_of language source.now }
     ensures some { 0 < width_of result }
     ensures within { width_of result ≤ length source.now }
 {
     let lines = new_line_len(source);
-    let replaced = trigraph_of(source);
+    let replaced = trigraph_of(language, source);
     let (byte, width) = if lines > 0 {
         (b'\n', lines)
     } else if replaced > 0 {

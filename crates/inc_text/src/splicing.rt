@@ -4,7 +4,9 @@ ghost use Rattle.std.specs.List.{All};
 ghost use Rattle.inc_text.specs.Origins.{IsMapped, IsSpliced, cells_at, ends_open, is_special, mark_len, origins_past, origins_with};
 ghost use Rattle.inc_text.specs.PhaseText.{phase_text};
 ghost use Rattle.inc_text.specs.declared.devices.TheConstants.{LONGEST_FILE};
+ghost use Rattle.inc_text.specs.declared.languages.Language.{Language};
 
+use crate::languages::Language;
 use crate::origins::Origin;
 use crate::plain_runs::plain_end;
 use crate::source_pieces::{SourcePiece, piece_of};
@@ -109,9 +111,9 @@ impl Splicer {
         requires order { self.old.len ≤ at }
         requires within { at ≤ length self.old.bytes.items }
         ensures on { (at ≤ result) × (result ≤ length self.new.bytes.items) }
-        ensures read { (source : List ℕ)
-            → IsSpliced source self.old.origins.items self.old.splices.items self.old.bytes.items self.old.len at
-            → IsSpliced source self.new.origins.items self.new.splices.items self.new.bytes.items self.new.len result }
+        ensures read { (language : Language) (source : List ℕ)
+            → IsSpliced language source self.old.origins.items self.old.splices.items self.old.bytes.items self.old.len at
+            → IsSpliced language source self.new.origins.items self.new.splices.items self.new.bytes.items self.new.len result }
     {
         let end = plain_end(&self.bytes, at);
         move_down(&mut self.bytes, at, self.len, end - at);
@@ -120,16 +122,16 @@ impl Splicer {
     }
 
     /// Adds the piece at place `at` of the source, and says where it ends.
-    fn take_piece(&mut self, at: usize) -> Result<usize, AllocError>
+    fn take_piece(&mut self, language: Language, at: usize) -> Result<usize, AllocError>
         requires order { self.old.len ≤ at }
         requires more { at < length self.old.bytes.items }
         requires short { length self.old.bytes.items ≤ LONGEST_FILE }
         ensures on { IfOk result (λ next. at < next) }
         ensures read { IfOk result (λ next. (source : List ℕ)
-            → IsSpliced source self.old.origins.items self.old.splices.items self.old.bytes.items self.old.len at
-            → IsSpliced source self.new.origins.items self.new.splices.items self.new.bytes.items self.new.len next) }
+            → IsSpliced language source self.old.origins.items self.old.splices.items self.old.bytes.items self.old.len at
+            → IsSpliced language source self.new.origins.items self.new.splices.items self.new.bytes.items self.new.len next) }
     {
-        match piece_of(&self.bytes[at..]) {
+        match piece_of(language, &self.bytes[at..]) {
             SourcePiece::Byte(byte, width) => {
                 self.put_byte(at, byte, width)?;
                 Ok(at + width as usize)
@@ -147,11 +149,11 @@ impl Splicer {
     fn finish(self) -> Result<MappedBytes, AllocError>
         requires order { self.len ≤ length self.bytes.items }
         requires short { length self.bytes.items ≤ LONGEST_FILE }
-        ensures text { IfOk result (λ p. (source : List ℕ)
-            → IsSpliced source self.origins.items self.splices.items self.bytes.items self.len (length source)
-            → cells_at p.origins.items p.splices.items 0 0 p.bytes.items ≡ phase_text source) }
-        ensures parts { IfOk result (λ p. (source : List ℕ)
-            → IsSpliced source self.origins.items self.splices.items self.bytes.items self.len (length source)
+        ensures text { IfOk result (λ p. (language : Language) (source : List ℕ)
+            → IsSpliced language source self.origins.items self.splices.items self.bytes.items self.len (length source)
+            → cells_at p.origins.items p.splices.items 0 0 p.bytes.items ≡ phase_text language source) }
+        ensures parts { IfOk result (λ p. (language : Language) (source : List ℕ)
+            → IsSpliced language source self.origins.items self.splices.items self.bytes.items self.len (length source)
             → IsMapped p.origins.items p.splices.items p.bytes.items) }
     {
         let Splicer {
@@ -189,10 +191,14 @@ fn mark_len(source: &[u8]) -> usize
 }
 
 /// The parts of the text of a source, in its own memory: bytes before the first that is dropped or replaced stay where they are.
-pub fn splice_bytes(alloc: Global, source: Vec<u8>) -> Result<MappedBytes, AllocError>
+pub fn splice_bytes(
+    alloc: Global,
+    source: Vec<u8>,
+    language: Language,
+) -> Result<MappedBytes, AllocError>
     requires { length source.items ≤ LONGEST_FILE }
     ensures text { IfOk result (λ p. cells_at p.origins.items p.splices.items 0 0 p.bytes.items
-        ≡ phase_text source.items) }
+        ≡ phase_text language source.items) }
     ensures parts { IfOk result (λ p. IsMapped p.origins.items p.splices.items p.bytes.items) }
 {
     let mut splicer = Splicer {
@@ -208,7 +214,7 @@ pub fn splice_bytes(alloc: Global, source: Vec<u8>) -> Result<MappedBytes, Alloc
     while at < splicer.bytes.len() {
         at = splicer.take_run(at);
         if at < splicer.bytes.len() {
-            at = splicer.take_piece(at)?;
+            at = splicer.take_piece(language, at)?;
         }
     }
     splicer.finish()

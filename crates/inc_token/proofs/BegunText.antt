@@ -15,27 +15,28 @@ use Rattle.inc_token.proofs.FrontPlaces.{word_taken}
 use Rattle.inc_token.proofs.FrontSteps.{token_ahead}
 use Rattle.inc_token.proofs.PieceTests.{slash_and}
 use Rattle.inc_token.proofs.Places.{piece_fits}
+use Rattle.inc_text.specs.declared.languages.Language.{Language}
 
 not_off : (x : Bool) → not x ≡ true → x ≡ false
 not_off true is = sym is
 not_off false is = refl
 
 -- the token at the front
-abbrev front_len : List ℕ → ℕ
-front_len text = longest is_token (line_part text)
+abbrev front_len : Language → List ℕ → ℕ
+front_len language text = longest (is_token language) (line_part text)
 
-abbrev front_kind : List ℕ → Kind
-front_kind text = unwrap_or (class_of (take (front_len text) (line_part text))) Other
+abbrev front_kind : Language → List ℕ → Kind
+front_kind language text = unwrap_or (class_of language (take (front_len language text) (line_part text))) Other
 
-text_piece : (b : ℕ) (bs : List ℕ) → is_blank b ≡ false → (b == 10) ≡ false → (b == 47) ≡ false → piece_at AtStart (b ∷ bs) ≡ Lexeme (front_kind (b ∷ bs)) (front_len (b ∷ bs))
-text_piece b bs bare line slash =
+text_piece : (language : Language) (b : ℕ) (bs : List ℕ) → is_blank b ≡ false → (b == 10) ≡ false → (b == 47) ≡ false → piece_at language AtStart (b ∷ bs) ≡ Lexeme (front_kind language (b ∷ bs)) (front_len language (b ∷ bs))
+text_piece language b bs bare line slash =
     cond-false _ _ _ bare
     ∙ (cond-false _ _ _ (slash_and 42 b bs ∙ ap (λ t. t && begins_with_byte 42 bs) slash)
     ∙ (cond-false _ _ _ (slash_and 47 b bs ∙ ap (λ t. t && begins_with_byte 47 bs) slash) ∙ cond-false _ _ _ line))
 
-same_progress : (text : List ℕ) → piece_at AtStart text ≡ piece_at Elsewhere text
-same_progress [] = refl
-same_progress (b ∷ bs) = refl
+same_progress : (language : Language) (text : List ℕ) → piece_at language AtStart text ≡ piece_at language Elsewhere text
+same_progress language [] = refl
+same_progress language (b ∷ bs) = refl
 
 no_hash : (b n : ℕ) (bs : List ℕ) → 1 ≤ n → (b == 35) ≡ false → (b == 37) ≡ false → is_hash (take n (b ∷ bs)) ≡ false
 no_hash b zero bs some hash percent = absurd (omega arith)
@@ -52,13 +53,13 @@ text_begun w h left bare text =
     let last = or_parts _ _ (not_off _ text) in
     let third = or_parts _ _ last.0 in
     let both = or_parts _ _ third.0 in
-    let n : ℕ = front_len (b ∷ bs) in
-    let kind : Kind = front_kind (b ∷ bs) in
-    let is : piece_at AtStart (drop w.at bytes) ≡ Lexeme kind n = ap (piece_at AtStart) head ∙ text_piece b bs bare both.0 last.1 in
-    let fits = piece_fits bytes w.at AtStart (Lexeme kind n) lt (sym is) in
+    let n : ℕ = front_len w.language (b ∷ bs) in
+    let kind : Kind = front_kind w.language (b ∷ bs) in
+    let is : piece_at w.language AtStart (drop w.at bytes) ≡ Lexeme kind n = ap (piece_at w.language AtStart) head ∙ text_piece w.language b bs bare both.0 last.1 in
+    let fits = piece_fits w.language bytes w.at AtStart (Lexeme kind n) lt (sym is) in
     let some : 1 ≤ n = fits.0 in
     let within : w.at + n ≤ length w.cursor = omega (arith, fits.1, h.len) in
     let len : w.at + n - w.at ≡ n = omega arith in
     let word : is_hash (slice_range bytes w.at (w.at + n)) ≡ false = ap (λ k. is_hash (take k (drop w.at bytes))) len ∙ (ap (λ t. is_hash (take n t)) head ∙ no_hash b n bs some both.1 third.1) in
-    let there = token_ahead w.language bytes w.cursor w.at n kind (Known text_brief) h.bytes left (sym is ∙ same_progress (drop w.at bytes)) some in
+    let there = token_ahead w.language bytes w.cursor w.at n kind (Known text_brief) h.bytes left (sym is ∙ same_progress w.language (drop w.at bytes)) some in
     word_taken w n kind h some within is word ∙ sym there.1

@@ -12,7 +12,9 @@ use Rattle.inc_token.specs.Scanning.{begins_with_byte, begins_with_point, is_row
 use Rattle.inc_token.proofs.FrontPieces.{first_token, token_by, piece_by}
 use Rattle.inc_token.proofs.Rows.{differs}
 use Rattle.inc_token.proofs.FirstBytes.{no_wide}
+use Rattle.inc_token.proofs.Words.{no_start}
 use Rattle.inc_token.proofs.Punctuators.{punctuator_len-symbol}
+use Rattle.inc_text.specs.declared.languages.Language.{Language}
 
 -- a digit or a letter
 
@@ -24,8 +26,8 @@ letter_begins : (b : ℕ) (bs : List ℕ) → is_digit b ≡ false → is_letter
 letter_begins b [] digit letter = digit
 letter_begins b (c ∷ cs) digit letter = rw (digit, differs is_letter 46 b refl letter) refl
 
-word_token-is : (b : ℕ) (bs : List ℕ) → is_row_byte b ≡ true → word_token (b ∷ bs) ≡ first_token (b ∷ bs)
-word_token-is b bs part =
+word_token-is : (language : Language) (b : ℕ) (bs : List ℕ) → is_row_byte b ≡ true → word_token language (b ∷ bs) ≡ first_token language (b ∷ bs)
+word_token-is language b bs part =
     ⊎_elim
     (λ (digit : is_digit b ≡ true). rw (digit, digit_begins b bs digit) refl)
     (λ (other : is_digit b ≡ false).
@@ -37,11 +39,11 @@ no_header : (b : ℕ) (bs : List ℕ) → is_row_byte b ≡ true → header_name
 no_header b [] part = refl
 no_header b (c ∷ cs) part = rw (differs is_row_byte 60 b refl part, differs is_row_byte 34 b refl part) refl
 
-part_token : (progress : Progress) (b : ℕ) (bs : List ℕ) → is_row_byte b ≡ true → token_by progress (b ∷ bs) ≡ first_token (b ∷ bs)
-part_token AtStart b bs part = refl
-part_token AfterHash b bs part = refl
-part_token AfterInclude b bs part = rw (no_header b bs part) refl
-part_token Elsewhere b bs part = refl
+part_token : (language : Language) (progress : Progress) (b : ℕ) (bs : List ℕ) → is_row_byte b ≡ true → token_by language progress (b ∷ bs) ≡ first_token language (b ∷ bs)
+part_token language AtStart b bs part = refl
+part_token language AfterHash b bs part = refl
+part_token language AfterInclude b bs part = rw (no_header b bs part) refl
+part_token language Elsewhere b bs part = refl
 
 -- another byte
 
@@ -49,44 +51,44 @@ point_begins : (b : ℕ) (bs : List ℕ) → is_digit b ≡ false → begins_num
 point_begins b [] other = other
 point_begins b (c ∷ cs) other = rw other refl
 
-mark_token-is : (b : ℕ) (bs : List ℕ) → is_digit b ≡ false → is_letter b ≡ false → mark_token (b ∷ bs) ≡ first_token (b ∷ bs)
-mark_token-is b bs digit letter =
+mark_token-is : (language : Language) (b : ℕ) (bs : List ℕ) → is_digit b ≡ false → is_letter b ≡ false → mark_token language (b ∷ bs) ≡ first_token language (b ∷ bs)
+mark_token-is language b bs digit letter =
     let wide = no_wide (λ x. not (is_letter x)) b refl refl refl (ap not letter) in
     rw (point_begins b bs digit, wide, letter) refl
 
-mark_by-is : (progress : Progress) (b : ℕ) (bs : List ℕ) → is_digit b ≡ false → is_letter b ≡ false → mark_by progress (b ∷ bs) ≡ token_by progress (b ∷ bs)
-mark_by-is AtStart b bs digit letter = mark_token-is b bs digit letter
-mark_by-is AfterHash b bs digit letter = mark_token-is b bs digit letter
-mark_by-is AfterInclude b bs digit letter =
+mark_by-is : (language : Language) (progress : Progress) (b : ℕ) (bs : List ℕ) → is_digit b ≡ false → is_letter b ≡ false → mark_by language progress (b ∷ bs) ≡ token_by language progress (b ∷ bs)
+mark_by-is language AtStart b bs digit letter = mark_token-is language b bs digit letter
+mark_by-is language AfterHash b bs digit letter = mark_token-is language b bs digit letter
+mark_by-is language AfterInclude b bs digit letter =
     let n = header_name_len (b ∷ bs) in
-    ap (λ p. cond (nat_lt 0 n) (Lexeme HeaderName n) p) (mark_token-is b bs digit letter)
-mark_by-is Elsewhere b bs digit letter = mark_token-is b bs digit letter
+    ap (λ p. cond (nat_lt 0 n) (Lexeme HeaderName n) p) (mark_token-is language b bs digit letter)
+mark_by-is language Elsewhere b bs digit letter = mark_token-is language b bs digit letter
 
-behind_blanks : (progress : Progress) (b : ℕ) (bs : List ℕ) → is_blank b ≡ false → piece_behind_blanks progress (b ∷ bs) ≡ piece_by progress (b ∷ bs)
-behind_blanks progress b bs bare =
+behind_blanks : (language : Language) (progress : Progress) (b : ℕ) (bs : List ℕ) → is_blank b ≡ false → piece_behind_blanks language progress (b ∷ bs) ≡ piece_by language progress (b ∷ bs)
+behind_blanks language progress b bs bare =
     ⊎_elim
     (λ (part : is_row_byte b ≡ true).
     let line = differs is_row_byte 10 b refl part in
     let slash = differs is_row_byte 47 b refl part in
-    rw (part, bare, line, slash) (word_token-is b bs part ∙ sym (part_token progress b bs part)))
+    rw (part, bare, line, slash) (word_token-is language b bs part ∙ sym (part_token language progress b bs part)))
     (λ (other : is_row_byte b ≡ false).
     let neither = or_parts (is_digit b) (is_letter b) other in
     let star = (b == 47) && begins_with_byte 42 bs in
     let slash = (b == 47) && begins_with_byte 47 bs in
     rw (other, bare)
-    (ap (λ p. cond (b == 10) NewLine (cond star (block_comment (b ∷ bs)) (cond slash (line_comment (b ∷ bs)) p))) (mark_by-is progress b bs neither.0 neither.1)))
+    (ap (λ p. cond (b == 10) NewLine (cond star (block_comment (b ∷ bs)) (cond slash (line_comment (b ∷ bs)) p))) (mark_by-is language progress b bs neither.0 neither.1)))
     (cases_Bool (is_row_byte b))
 
-pub behind_blanks-at : (progress : Progress) (text : List ℕ) (at : ℕ) → at < length text → is_blank (get_or text at 0) ≡ false
-    → piece_behind_blanks progress (drop at text) ≡ piece_by progress (drop at text)
-behind_blanks-at progress text at lt bare =
-    subst (λ xs. piece_behind_blanks progress xs ≡ piece_by progress xs) (sym (drop_more text at 0 lt)) (behind_blanks progress (get_or text at 0) (drop (at + 1) text) bare)
+pub behind_blanks-at : (language : Language) (progress : Progress) (text : List ℕ) (at : ℕ) → at < length text → is_blank (get_or text at 0) ≡ false
+    → piece_behind_blanks language progress (drop at text) ≡ piece_by language progress (drop at text)
+behind_blanks-at language progress text at lt bare =
+    subst (λ xs. piece_behind_blanks language progress xs ≡ piece_by language progress xs) (sym (drop_more text at 0 lt)) (behind_blanks language progress (get_or text at 0) (drop (at + 1) text) bare)
 
 -- a byte that begins no punctuator but itself
 
-single_token : (b : ℕ) (bs : List ℕ) → is_single b ≡ true → mark_token (b ∷ bs) ≡ Lexeme Punct 1
-single_token b bs single =
-    rw (no_point b bs single, differs is_single 92 b refl single, differs is_single 34 b refl single, differs is_single 39 b refl single, one_byte) refl
+single_token : (language : Language) (b : ℕ) (bs : List ℕ) → is_single b ≡ true → mark_token language (b ∷ bs) ≡ Lexeme Punct 1
+single_token language b bs single =
+    rw (no_point b bs single, no_start language is_single b refl refl single, differs is_single 34 b refl single, differs is_single 39 b refl single, one_byte) refl
   where
     no_point : (b : ℕ) (bs : List ℕ) → is_single b ≡ true → begins_with_point (b ∷ bs) ≡ false
     no_point b [] single = refl
@@ -99,12 +101,12 @@ single_name : (b : ℕ) (bs : List ℕ) → is_single b ≡ true → header_name
 single_name b [] single = refl
 single_name b (c ∷ cs) single = rw (differs is_single 60 b refl single, differs is_single 34 b refl single) refl
 
-single_mark : (progress : Progress) (b : ℕ) (bs : List ℕ) → is_single b ≡ true → mark_by progress (b ∷ bs) ≡ Lexeme Punct 1
-single_mark AtStart b bs single = single_token b bs single
-single_mark AfterHash b bs single = single_token b bs single
-single_mark AfterInclude b bs single = rw (single_name b bs single) (single_token b bs single)
-single_mark Elsewhere b bs single = single_token b bs single
+single_mark : (language : Language) (progress : Progress) (b : ℕ) (bs : List ℕ) → is_single b ≡ true → mark_by language progress (b ∷ bs) ≡ Lexeme Punct 1
+single_mark language AtStart b bs single = single_token language b bs single
+single_mark language AfterHash b bs single = single_token language b bs single
+single_mark language AfterInclude b bs single = rw (single_name b bs single) (single_token language b bs single)
+single_mark language Elsewhere b bs single = single_token language b bs single
 
-pub single_mark-at : (progress : Progress) (text : List ℕ) (at : ℕ) → at < length text → is_single (get_or text at 0) ≡ true → mark_by progress (drop at text) ≡ Lexeme Punct 1
-single_mark-at progress text at within single =
-    subst (λ bs. mark_by progress bs ≡ Lexeme Punct 1) (sym (drop_more text at 0 within)) (single_mark progress (get_or text at 0) (drop (at + 1) text) single)
+pub single_mark-at : (language : Language) (progress : Progress) (text : List ℕ) (at : ℕ) → at < length text → is_single (get_or text at 0) ≡ true → mark_by language progress (drop at text) ≡ Lexeme Punct 1
+single_mark-at language progress text at within single =
+    subst (λ bs. mark_by language progress bs ≡ Lexeme Punct 1) (sym (drop_more text at 0 within)) (single_mark language progress (get_or text at 0) (drop (at + 1) text) single)

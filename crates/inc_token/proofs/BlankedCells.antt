@@ -13,6 +13,7 @@ use Rattle.inc_token.proofs.BlankedWalks.{AreGone, last_cell, last_of-is}
 use Rattle.inc_token.proofs.HonestCells.{IsHonest, AreHonest, honest_from, honest_without_mark, honest_phases}
 use Rattle.inc_token.proofs.PhaseSeams.{Row, Rise, Away, Parts, phases, is_gone, rise_lower, rise_phases, seam, gone_first, space_between}
 use Rattle.inc_token.proofs.SamePieces.{on_line}
+use Rattle.inc_text.specs.declared.languages.Language.{Language}
 
 ---- bytes
 
@@ -111,12 +112,12 @@ gone-blank at line (b ∷ bs) = (
   by true is = inr (eqb-true b 10 is)
   by false is = inl refl
 
-phases_gone : (gone rest : List Cell) → AreGone gone → phases (gone ++ rest) ≡ gone ++ phases rest
-phases_gone [] rest are = refl
-phases_gone (c ∷ cs) rest (inl blank, are) = gone_first c (ap is_gone blank) (cs ++ rest)
-    ∙ ap (λ xs. c ∷ xs) (phases_gone cs rest are)
-phases_gone (c ∷ cs) rest (inr end, are) = gone_first c (ap is_gone end) (cs ++ rest)
-    ∙ ap (λ xs. c ∷ xs) (phases_gone cs rest are)
+phases_gone : (language : Language) (gone rest : List Cell) → AreGone gone → phases language (gone ++ rest) ≡ gone ++ phases language rest
+phases_gone language [] rest are = refl
+phases_gone language (c ∷ cs) rest (inl blank, are) = gone_first c (ap is_gone blank) language (cs ++ rest)
+    ∙ ap (λ xs. c ∷ xs) (phases_gone language cs rest are)
+phases_gone language (c ∷ cs) rest (inr end, are) = gone_first c (ap is_gone end) language (cs ++ rest)
+    ∙ ap (λ xs. c ∷ xs) (phases_gone language cs rest are)
 
 ---- order
 
@@ -256,12 +257,12 @@ start (x ∷ y ∷ z ∷ front) old v new is short = by ((eqb x 0xef && eqb y 0x
       }
 
 -- the text before an LF is added
-abbrev pub open_text : List ℕ → List Cell
-open_text source = phases (without_mark (cells_from 0 1 source))
+abbrev pub open_text : Language → List ℕ → List Cell
+open_text language source = phases language (without_mark (cells_from 0 1 source))
 
 -- all of it is in order
-open_rise : (source : List ℕ) → (n : ℕ) × Rise n (open_text source) (length source) × (has_mark source ≡ true → 3 ≤ n)
-open_rise source = by (has_mark source) refl where
+open_rise : (language : Language) (source : List ℕ) → (n : ℕ) × Rise n (open_text language source) (length source) × (has_mark source ≡ true → 3 ≤ n)
+open_rise language source = by (has_mark source) refl where
   -- three bytes are there
   three : (bs : List ℕ) → has_mark bs ≡ true → 3 ≤ length bs
   three [] is = cc
@@ -273,14 +274,14 @@ open_rise source = by (has_mark source) refl where
     clash p q = cc
   three (x ∷ y ∷ z ∷ bs) is = omega arith
 
-  by : (t : Bool) → has_mark source ≡ t → (n : ℕ) × Rise n (open_text source) (length source) ×
+  by : (t : Bool) → has_mark source ≡ t → (n : ℕ) × Rise n (open_text language source) (length source) ×
       (has_mark source ≡ true → 3 ≤ n)
   by false is =
       let cells : without_mark (cells_from 0 1 source) ≡ cells_from 0 1 source = without_mark_is source
       ∙ cond-false (has_mark source) _ _ is in (
         0,
-        subst (λ cs. Rise 0 (phases cs) (length source)) (sym cells)
-            (rise_phases 0 (length source) (cells_from 0 1 source)
+        subst (λ cs. Rise 0 (phases language cs) (length source)) (sym cells)
+            (rise_phases language 0 (length source) (cells_from 0 1 source)
             (row_cells 0 (length source) 1 source (omega arith))),
         λ mark. let e : false ≡ true = sym is ∙ mark in cc,
       )
@@ -289,8 +290,8 @@ open_rise source = by (has_mark source) refl where
       ∙ cond-true (has_mark source) _ _ is in
       let size : length source ≡ 3 + length (drop 3 source) = omega (arith, length-drop 3 source, three source is) in (
         3,
-        subst (λ cs. Rise 3 (phases cs) (length source)) (sym cells)
-            (rise_phases 3 (length source) (cells_from 3 1 (drop 3 source))
+        subst (λ cs. Rise 3 (phases language cs) (length source)) (sym cells)
+            (rise_phases language 3 (length source) (cells_from 3 1 (drop 3 source))
             (row_cells 3 (length source) 1 (drop 3 source) size)),
         λ mark. omega arith,
       )
@@ -302,9 +303,9 @@ same_byte [] i d lt = absurd (omega (arith, lt))
 same_byte (b ∷ bs) zero d lt = refl
 same_byte (b ∷ bs) (suc i) d lt = same_byte bs i d (omega (arith, lt))
 
-open_honest : (source : List ℕ) → AreHonest source (open_text source)
-open_honest source =
-    honest_phases source (without_mark (cells_from 0 1 source))
+open_honest : (language : Language) (source : List ℕ) → AreHonest source (open_text language source)
+open_honest language source =
+    honest_phases source language (without_mark (cells_from 0 1 source))
     (honest_without_mark source (cells_from 0 1 source)
     (honest_from source 0 1 source (λ i d lt. ap (λ j. get_or source j 0) (at_zero i) ∙ same_byte source i d lt)))
   where
@@ -354,52 +355,52 @@ row_append n k m [] ys h r = subst (λ i. Row i ys m) (sym h) r
 row_append n k m (x ∷ xs) ys h r = (h.0, h.1, row_append x.last k m xs ys h.2 r)
 
 -- cells of three parts of a source, where the text has a row of cells for the second of them
-module _ (n p q m : ℕ) (xs ys zs before : List Cell) (c : Cell) (cs rest : List Cell) (row_x : Row n xs p)
+module _ (language : Language) (n p q m : ℕ) (xs ys zs before : List Cell) (c : Cell) (cs rest : List Cell) (row_x : Row n xs p)
     (row_y : Row p ys q) (row_z : Row q zs m)
-    (some : p < q) (text : phases (xs ++ (ys ++ zs)) ≡ before ++ (c ∷ (cs ++ rest))) (first : c.first ≡ p)
+    (some : p < q) (text : phases language (xs ++ (ys ++ zs)) ≡ before ++ (c ∷ (cs ++ rest))) (first : c.first ≡ p)
     (last : last_of c cs ≡ q) where
   rises : Rise n (before ++ (c ∷ (cs ++ rest))) m
-  rises = subst (λ cells. Rise n cells m) text (rise_phases n m (xs ++ (ys ++ zs))
+  rises = subst (λ cells. Rise n cells m) text (rise_phases language n m (xs ++ (ys ++ zs))
       (row_append n p m xs (ys ++ zs) row_x (row_append p q m ys zs row_y row_z)))
 
-  seam_p : phases (xs ++ (ys ++ zs)) ≡ phases xs ++ phases (ys ++ zs)
-  seam_p = by (seam n p m xs (ys ++ zs) row_x (row_append p q m ys zs row_y row_z)) where
-    by : Parts n p (phases (xs ++ (ys ++ zs))) (phases xs) (phases (ys ++ zs))
-        → phases (xs ++ (ys ++ zs)) ≡ phases xs ++ phases (ys ++ zs)
+  seam_p : phases language (xs ++ (ys ++ zs)) ≡ phases language xs ++ phases language (ys ++ zs)
+  seam_p = by (seam language n p m xs (ys ++ zs) row_x (row_append p q m ys zs row_y row_z)) where
+    by : Parts n p (phases language (xs ++ (ys ++ zs))) (phases language xs) (phases language (ys ++ zs))
+        → phases language (xs ++ (ys ++ zs)) ≡ phases language xs ++ phases language (ys ++ zs)
     by (inl is) = is
     by (inr away) = absurd ((away_at p before c cs rest (subst (Away p) text away.1)).0 first)
 
-  seam_q : phases (ys ++ zs) ≡ phases ys ++ phases zs
-  seam_q = by (seam p q m ys zs row_y row_z) where
-    by : Parts p q (phases (ys ++ zs)) (phases ys) (phases zs) → phases (ys ++ zs) ≡ phases ys ++ phases zs
+  seam_q : phases language (ys ++ zs) ≡ phases language ys ++ phases language zs
+  seam_q = by (seam language p q m ys zs row_y row_z) where
+    by : Parts p q (phases language (ys ++ zs)) (phases language ys) (phases language zs) → phases language (ys ++ zs) ≡ phases language ys ++ phases language zs
     by (inl is) = is
     by (inr away) =
-        let all : Away q (phases xs ++ phases (ys ++ zs)) =
-        away_append q _ _ (rise_away q n p (phases xs) some (rise_phases n p xs row_x)) away.1 in
+        let all : Away q (phases language xs ++ phases language (ys ++ zs)) =
+        away_append q _ _ (rise_away q n p (phases language xs) some (rise_phases language n p xs row_x)) away.1 in
         absurd ((away_at q before c cs rest (subst (Away q) (sym seam_p ∙ text) all)).1 last)
 
-  pub parts_are : (phases xs ≡ before) × (phases zs ≡ rest)
+  pub parts_are : (phases language xs ≡ before) × (phases language zs ≡ rest)
   parts_are =
-      let rise_y = rise_phases p q ys row_y in
-      let rise_z = rise_phases q m zs row_z in
+      let rise_y = rise_phases language p q ys row_y in
+      let rise_z = rise_phases language q m zs row_z in
       let at_c = rise_before n m before c (cs ++ rest) rises in
-      let all : phases xs ++ (phases ys ++ phases zs) ≡ before ++ (c ∷ (cs ++ rest)) =
-      ap (λ cells. phases xs ++ cells) (sym seam_q) ∙ sym seam_p ∙ text in
-      let one = between p (phases xs) (phases ys ++ phases zs) before (c ∷ (cs ++ rest)) all
-      (rise_below n p (phases xs) (rise_phases n p xs row_x))
-      (rise_from p p m (phases ys ++ phases zs) (omega arith)
-      (rise_append p q m (phases ys) (phases zs) rise_y rise_z))
+      let all : phases language xs ++ (phases language ys ++ phases language zs) ≡ before ++ (c ∷ (cs ++ rest)) =
+      ap (λ cells. phases language xs ++ cells) (sym seam_q) ∙ sym seam_p ∙ text in
+      let one = between p (phases language xs) (phases language ys ++ phases language zs) before (c ∷ (cs ++ rest)) all
+      (rise_below n p (phases language xs) (rise_phases language n p xs row_x))
+      (rise_from p p m (phases language ys ++ phases language zs) (omega arith)
+      (rise_append p q m (phases language ys) (phases language zs) rise_y rise_z))
       (subst (λ i. Below i before) first at_c.1) (rise_from p c.first m (c ∷ (cs ++ rest))
       (omega (arith, first)) at_c.2) in
       let at_rest = rise_some c.first m c cs rest at_c.2 in
-      let two = between q (phases ys) (phases zs) (c ∷ cs) rest one.1 (rise_below p q (phases ys) rise_y)
-      (rise_from q q m (phases zs) (omega arith) rise_z)
+      let two = between q (phases language ys) (phases language zs) (c ∷ cs) rest one.1 (rise_below p q (phases language ys) rise_y)
+      (rise_from q q m (phases language zs) (omega arith) rise_z)
       (subst (λ i. Below i (c ∷ cs)) last at_rest.1)
       (rise_from q (last_of c cs) m rest (omega (arith, last)) at_rest.2) in
       (one.0, two.1)
 
 -- the source bytes of a row of cells of the text are spaces and LFs in the new one, and all else is as it was
-pub record Blanked (new : List ℕ) (before rest : List Cell) : Type 0 where
+pub record Blanked (language : Language) (new : List ℕ) (before rest : List Cell) : Type 0 where
   -- the first of the cells that are there instead
   pub s : Cell
   -- the others
@@ -411,10 +412,10 @@ pub record Blanked (new : List ℕ) (before rest : List Cell) : Type 0 where
   -- the last one is a space
   pub end : (last_cell s gone).byte ≡ 32
   -- the new text has them in that place
-  pub text : open_text new ≡ before ++ (s ∷ (gone ++ rest))
+  pub text : open_text language new ≡ before ++ (s ∷ (gone ++ rest))
 
-module _ (front : List ℕ) (b : ℕ) (bs back : List ℕ) (before : List Cell) (c : Cell) (cs rest : List Cell)
-    (text : open_text (front ++ (b ∷ (bs ++ back))) ≡ before ++ (c ∷ (cs ++ rest)))
+module _ (language : Language) (front : List ℕ) (b : ℕ) (bs back : List ℕ) (before : List Cell) (c : Cell) (cs rest : List Cell)
+    (text : open_text language (front ++ (b ∷ (bs ++ back))) ≡ before ++ (c ∷ (cs ++ rest)))
     (first : c.first ≡ length front) (last : last_of c cs ≡ length front + length (b ∷ bs))
     (on : on_line c.byte ≡ true) (on_last : on_line (last_cell c cs).byte ≡ true) where
   abbrev source : List ℕ
@@ -424,7 +425,7 @@ module _ (front : List ℕ) (b : ℕ) (bs back : List ℕ) (before : List Cell) 
   size_of = let e = length-append front (b ∷ (bs ++ back)) in let f = length-append bs back in omega (arith, e, f)
 
   honest : IsHonest source c × IsHonest source (last_cell c cs)
-  honest = honest_at source before c cs rest (subst (AreHonest source) text (open_honest source))
+  honest = honest_at source before c cs rest (subst (AreHonest source) text (open_honest language source))
 
   space : blank_byte b ≡ 32
   space =
@@ -443,14 +444,14 @@ module _ (front : List ℕ) (b : ℕ) (bs back : List ℕ) (before : List Cell) 
 
   no_mark : length front < 3 → has_mark source ≡ false
   no_mark short =
-      let order = open_rise source in
+      let order = open_rise language source in
       let at_c = rise_before order.0 (length source) before c (cs ++ rest)
       (subst (λ xs. Rise order.0 xs (length source)) text order.1) in
       false_from_ne_true (has_mark source) (λ mark. let low =
       order.2 mark in absurd (omega (arith, short, first, at_c.0, low)))
 
   by_start : Start front (b ∷ (bs ++ back)) (blank_byte b ∷ (map blank_byte bs ++ back))
-      → Blanked (front ++ (map blank_byte (b ∷ bs) ++ back)) before rest
+      → Blanked language (front ++ (map blank_byte (b ∷ bs) ++ back)) before rest
   by_start st =
       let p : ℕ = length front in
       let q : ℕ = p + length (b ∷ bs) in
@@ -461,10 +462,10 @@ module _ (front : List ℕ) (b : ℕ) (bs back : List ℕ) (before : List Cell) 
       let zs : List Cell = cells_from q k back in
       let s : Cell = record { byte = blank_byte b; first = p; last = p + 1; line = l } in
       let gone : List Cell = cells_from (p + 1) (cond (eqb (blank_byte b) 10) (l + 1) l) (map blank_byte bs) in
-      let old : phases (xs ++ (ys ++ zs)) ≡ before ++ (c ∷ (cs ++ rest)) =
-      ap phases (ap (λ cells. xs ++ cells) (sym (cells_append p q l (b ∷ bs) back refl))
+      let old : phases language (xs ++ (ys ++ zs)) ≡ before ++ (c ∷ (cs ++ rest)) =
+      ap (phases language) (ap (λ cells. xs ++ cells) (sym (cells_append p q l (b ∷ bs) back refl))
       ∙ sym (cells_append st.at p st.line st.text (b ∷ (bs ++ back)) st.size) ∙ sym st.before) ∙ text in
-      let parts = parts_are st.at p q (length source) xs ys zs before c cs rest
+      let parts = parts_are language st.at p q (length source) xs ys zs before c cs rest
       (row_cells st.at p st.line st.text st.size) (row_cells p q l (b ∷ bs) refl)
       (row_cells q (length source) k back size_of) (omega arith) old first last in
       let size : q ≡ p + length (map blank_byte (b ∷ bs)) = ap (λ n. p + n) (sym (length-map (b ∷ bs) blank_byte)) in
@@ -479,14 +480,14 @@ module _ (front : List ℕ) (b : ℕ) (bs back : List ℕ) (before : List Cell) 
         space = space;
         are = gone-blank (p + 1) (cond (eqb (blank_byte b) 10) (l + 1) l) bs;
         end = last_cell-blank (p + 1) (cond (eqb (blank_byte b) 10) (l + 1) l) b bs s refl ∙ end_space;
-        text = ap phases new ∙ space_between s space xs (gone ++ zs)
-            ∙ ap (λ cells. phases xs ++ (s ∷ cells)) (phases_gone gone zs
+        text = ap (phases language) new ∙ space_between s space language xs (gone ++ zs)
+            ∙ ap (λ cells. phases language xs ++ (s ∷ cells)) (phases_gone language gone zs
             (gone-blank (p + 1) (cond (eqb (blank_byte b) 10) (l + 1) l) bs))
-            ∙ ap (λ cells. cells ++ (s ∷ (gone ++ phases zs))) parts.0
+            ∙ ap (λ cells. cells ++ (s ∷ (gone ++ phases language zs))) parts.0
             ∙ ap (λ cells. before ++ (s ∷ (gone ++ cells))) parts.1;
       }
 
-  pub open_blanked : Blanked (front ++ (map blank_byte (b ∷ bs) ++ back)) before rest
+  pub open_blanked : Blanked language (front ++ (map blank_byte (b ∷ bs) ++ back)) before rest
   open_blanked = by_start (start front (b ∷ (bs ++ back)) (blank_byte b) (map blank_byte bs ++ back) space no_mark)
 
 ---- the last LF
@@ -557,7 +558,7 @@ unended end cells before c cs rest text some = by (ended_or end cells) where
       (r.0, r.1 ∙ append_assoc before (c ∷ cs) r.0, λ none. r.2 ∙ ap (λ xs. xs ++ (end ∷ [])) none)
 
 -- the text of a source of which a part is blanked
-pub record NewText (source : List ℕ) (before rest : List Cell) : Type 0 where
+pub record NewText (language : Language) (source : List ℕ) (before rest : List Cell) : Type 0 where
   -- the first of the cells that are there instead
   pub s : Cell
   -- the others
@@ -567,20 +568,20 @@ pub record NewText (source : List ℕ) (before rest : List Cell) : Type 0 where
   -- they are spaces and LFs
   pub are : AreGone gone
   -- the text of the source has them in that place
-  pub text : phase_text source ≡ before ++ (s ∷ (gone ++ rest))
+  pub text : phase_text language source ≡ before ++ (s ∷ (gone ++ rest))
 
-of_parts : (front mid back : List ℕ) (before : List Cell) (c : Cell) (cs rest : List Cell)
-    → phase_text (front ++ (mid ++ back)) ≡ before ++ (c ∷ (cs ++ rest)) → (rest ≡ [] → ⊥)
+of_parts : (language : Language) (front mid back : List ℕ) (before : List Cell) (c : Cell) (cs rest : List Cell)
+    → phase_text language (front ++ (mid ++ back)) ≡ before ++ (c ∷ (cs ++ rest)) → (rest ≡ [] → ⊥)
     → c.first ≡ length front → last_of c cs ≡ length front + length mid → c.first < last_of c cs
     → on_line c.byte ≡ true → on_line (last_cell c cs).byte ≡ true
-    → NewText (front ++ (map blank_byte mid ++ back)) before rest
-of_parts front [] back before c cs rest text some first last later on on_last =
+    → NewText language (front ++ (map blank_byte mid ++ back)) before rest
+of_parts language front [] back before c cs rest text some first last later on on_last =
     absurd (omega (arith, first, last, later))
-of_parts front (b ∷ bs) back before c cs rest text some first last later on on_last =
+of_parts language front (b ∷ bs) back before c cs rest text some first last later on on_last =
     let source : List ℕ = front ++ (b ∷ (bs ++ back)) in
     let end : Cell = added_new_line source in
-    let u = unended end (open_text source) before c cs rest text some in
-    let r = open_blanked front b bs back before c cs u.0 u.1 first last on on_last in
+    let u = unended end (open_text language source) before c cs rest text some in
+    let r = open_blanked language front b bs back before c cs u.0 u.1 first last on on_last in
     let whole : ended_by end (before ++ (c ∷ (cs ++ u.0))) ≡ before ++ (c ∷ (cs ++ rest)) =
     ap (ended_by end) (sym u.1) ∙ text in
     record {
@@ -588,21 +589,21 @@ of_parts front (b ∷ bs) back before c cs rest text some first last later on on
       gone = r.gone;
       space = r.space;
       are = r.are;
-      text = ap (λ e. ended_by e (open_text (front ++ (map blank_byte (b ∷ bs) ++ back))))
+      text = ap (λ e. ended_by e (open_text language (front ++ (map blank_byte (b ∷ bs) ++ back))))
           (end-blank front (b ∷ bs) back)
           ∙ ap (ended_by end) r.text ∙ ended_same end before c cs r.s r.gone u.0 rest r.end whole u.2;
     }
 
 -- the source bytes of some cells of a text give way to spaces and LFs, and all else is as it was
-pub blanked_text : (source : List ℕ) (before : List Cell) (c : Cell) (cs rest : List Cell)
-    → phase_text source ≡ before ++ (c ∷ (cs ++ rest)) → (rest ≡ [] → ⊥) → on_line c.byte ≡ true
+pub blanked_text : (language : Language) (source : List ℕ) (before : List Cell) (c : Cell) (cs rest : List Cell)
+    → phase_text language source ≡ before ++ (c ∷ (cs ++ rest)) → (rest ≡ [] → ⊥) → on_line c.byte ≡ true
     → on_line (last_cell c cs).byte ≡ true
-    → NewText (with_blank (record { first = c.first; last = last_of c cs }) source) before rest
-blanked_text source before c cs rest text some on on_last =
+    → NewText language (with_blank (record { first = c.first; last = last_of c cs }) source) before rest
+blanked_text language source before c cs rest text some on on_last =
     let p : ℕ = c.first in
     let q : ℕ = last_of c cs in
-    let u = unended (added_new_line source) (open_text source) before c cs rest text some in
-    let order = open_rise source in
+    let u = unended (added_new_line source) (open_text language source) before c cs rest text some in
+    let order = open_rise language source in
     let at_c = rise_before order.0 (length source) before c (cs ++ u.0)
     (subst (λ xs. Rise order.0 xs (length source)) u.1 order.1) in
     let at_rest = rise_some p (length source) c cs u.0 at_c.2 in
@@ -617,7 +618,7 @@ blanked_text source before c cs rest text some on on_last =
     let size_behind : length behind ≡ length source - p = length-drop p source in
     let size_mid : length mid ≡ q - p = length-take-le (q - p) behind (omega (arith, size_behind, within)) in
     let size : q ≡ p + length mid = omega (arith, size_mid, at_rest.0) in
-    subst (λ bytes. NewText bytes before rest)
+    subst (λ bytes. NewText language bytes before rest)
     (sym (blanked_parts p q front mid back size_front size) ∙ ap (with_blank (record { first = p; last = q })) all)
-    (of_parts front mid back before c cs rest (ap phase_text all ∙ text) some size_front
+    (of_parts language front mid back before c cs rest (ap (phase_text language) all ∙ text) some size_front
     (omega (arith, size, size_front)) at_rest.0 on on_last)

@@ -1,5 +1,5 @@
 -- The token lines of a source of which some are blanked, one of them after the other.
-use Rattle.inc_token.specs.declared.kinds.Language.{Language}
+use Rattle.inc_text.specs.declared.languages.Language.{Language}
 use Rattle.std.proofs.Common.{◌≡◌, ℕ, ◌+◌, ◌<◌, ◌≤◌, Bool, true, false, not, cond, List, [], ◌∷◌, ◌++◌, Result, Ok, Err, IfOk, map, filter, append_assoc, refl, sym, ap, ◌∙◌, subst, arith}
 use Rattle.inc_text.specs.PhaseText.{Cell, phase_text}
 use Rattle.inc_text.proofs.TextLines.{phase_text-ascends}
@@ -25,20 +25,20 @@ some_cells language {space} {cells} {l} {ls} walk is =
     let e : Ok [] ≡ Ok (l ∷ ls) = ap (lines_from language 0 AtStart space) (sym is) ∙ walk_lines language walk in cc
 
 one_line : (language : Language) (source : List ℕ) (before : List TokenLine) (t : Tok) (ts : List Tok) (n : ℕ) (after : List TokenLine)
-    → token_lines language (phase_text source) ≡ Ok (before ++ (line (t ∷ ts) n ∷ after))
+    → token_lines language (phase_text language source) ≡ Ok (before ++ (line (t ∷ ts) n ∷ after))
     → (es : List TokenLine) × AreEmpty es
-    × (token_lines language (phase_text (with_blank (line_range (t ∷ ts)) source))
+    × (token_lines language (phase_text language (with_blank (line_range (t ∷ ts)) source))
     ≡ Ok (before ++ (es ++ (empty_line n ∷ after))))
 one_line language source before t ts n after is =
-    let r = reach_line language (lines_walk language AtStart false (phase_text source)
+    let r = reach_line language (lines_walk language AtStart false (phase_text language source)
     (before ++ (line (t ∷ ts) n ∷ after)) is) before t ts n after refl (λ _. refl) in
-    let new = blanked_text source r.before r.c r.cs r.rest r.all (some_cells language r.more) r.first_byte r.last_byte in
+    let new = blanked_text language source r.before r.c r.cs r.rest r.all (some_cells language r.more) r.first_byte r.last_byte in
     let w = walk_blanked language r new.s new.gone new.space new.are in (
       w.0,
       w.1,
-      ap (λ e. token_lines language (phase_text (with_blank
+      ap (λ e. token_lines language (phase_text language (with_blank
           (record { first = e; last = (line_range (t ∷ ts)).last }) source))) (sym r.first)
-          ∙ ap (λ e. token_lines language (phase_text (with_blank (record { first = r.c.first; last = e }) source))) (sym r.last)
+          ∙ ap (λ e. token_lines language (phase_text language (with_blank (record { first = r.c.first; last = e }) source))) (sym r.last)
           ∙ ap (token_lines language) new.text ∙ walk_lines language w.2,
     )
 
@@ -61,10 +61,10 @@ end_before k (e ∷ es) l rest h =
     let r = end_before (e.last_line + 1) es l rest h.2 in
     (omega (arith, h.0, r.0), (omega (arith, r.0), r.1))
 
-pub ascends : (language : Language) (source : List ℕ) (lines : List TokenLine) → token_lines language (phase_text source) ≡ Ok lines
+pub ascends : (language : Language) (source : List ℕ) (lines : List TokenLine) → token_lines language (phase_text language source) ≡ Ok lines
     → AreTokenLinesFrom 1 lines
-ascends language source lines is = by (token_lines language (phase_text source)) is
-    (token_lines-ascend language 1 (phase_text source) (phase_text-ascends source)) where
+ascends language source lines is = by (token_lines language (phase_text language source)) is
+    (token_lines-ascend language 1 (phase_text language source) (phase_text-ascends language source)) where
       by : (r : Result (List TokenLine) LexFault) → r ≡ Ok lines → IfOk r (AreTokenLinesFrom 1)
           → AreTokenLinesFrom 1 lines
       by (Ok ls) same h = let e : ls ≡ lines = cc in subst (AreTokenLinesFrom 1) e h
@@ -84,11 +84,11 @@ module _ (language : Language) (test : List Tok → Bool) where
   -- what is known of a source, some lines of which are looked at
   abbrev Answer : List TokenLine → List TokenLine → List ℕ → Type 0
   Answer before ls source =
-      (blank : List TokenLine) × (token_lines language (phase_text (blanked_from 0 (ranges_of test ls) source))
+      (blank : List TokenLine) × (token_lines language (phase_text language (blanked_from 0 (ranges_of test ls) source))
       ≡ Ok (before ++ blank)) × AreReplaced test ls blank
 
   abbrev Known : List TokenLine → Type 0
-  Known ls = (before : List TokenLine) (source : List ℕ) → token_lines language (phase_text source) ≡ Ok (before ++ ls)
+  Known ls = (before : List TokenLine) (source : List ℕ) → token_lines language (phase_text language source) ≡ Ok (before ++ ls)
       → Answer before ls source
 
   passed : (l : TokenLine) (ls : List TokenLine) (ts : List Tok) → l.tokens ≡ ts → test [] ≡ false
@@ -117,7 +117,7 @@ module _ (language : Language) (test : List Tok → Bool) where
       (ascends language new (before ++ (es ++ (empty_line n ∷ ls))) o.2) in
       let ends = end_before order.0 es (empty_line n) ls order.1 in (
         es ++ (empty_line n ∷ r.0),
-        ap (λ bs. token_lines language (phase_text bs)) bytes ∙ r.1
+        ap (λ bs. token_lines language (phase_text language bs)) bytes ∙ r.1
             ∙ ap Ok (joint r.0),
         replaced_by l ls r.0 es passes o.1 ends.1 r.2,
       )
@@ -130,7 +130,7 @@ module _ (language : Language) (test : List Tok → Bool) where
       (cond p (l ∷ filter (λ (m : TokenLine). test m.tokens) ls)
       (filter (λ (m : TokenLine). test m.tokens) ls))) fails in (
         l ∷ r.0,
-        ap (λ rs. token_lines language (phase_text (blanked_from 0 rs source))) same ∙ r.1
+        ap (λ rs. token_lines language (phase_text language (blanked_from 0 rs source))) same ∙ r.1
             ∙ ap Ok (append_assoc before (l ∷ []) r.0),
         stays (ap not fails) r.2,
       )
@@ -142,7 +142,7 @@ module _ (language : Language) (test : List Tok → Bool) where
 
   all_lines : (ls : List TokenLine) → test [] ≡ false → Known ls
   all_lines [] none before source is =
-      ([], ap (λ bs. token_lines language (phase_text bs)) (blanked_none 0 source) ∙ is, all_done)
+      ([], ap (λ bs. token_lines language (phase_text language bs)) (blanked_none 0 source) ∙ is, all_done)
   all_lines (l ∷ ls) none before source is = by_test l ls (test l.tokens) refl none
       (all_lines ls none) before source is
 

@@ -1,5 +1,5 @@
 -- The walk over a text in which a line of tokens gives way to spaces and LFs.
-use Rattle.inc_token.specs.declared.kinds.Language.{Language}
+use Rattle.inc_text.specs.declared.languages.Language.{Language}
 use Rattle.std.proofs.Common.{◌≡◌, ◌≢◌, ℕ, ◌-◌, ◌≤◌, ◌==◌, ◌||◌, ◌⊎◌, inl, inr, Bool, true, false, List, [], ◌∷◌, ◌++◌, length, get_or, append-nil, append_assoc, refl, sym, ap, ◌∙◌, subst, arith}
 use Rattle.std.proofs.lemmas.List.{map-append, length-map, length-append}
 use Rattle.inc_text.specs.PhaseText.{Cell, bytes_of}
@@ -96,12 +96,12 @@ token_cons u (k ∷ ls) l ms is =
     (k, ap (λ xs. k ∷ xs) (ap later_lines is), sym same)
 
 -- the last byte of a token is no LF
-token_last : (progress : Progress) (kind : Kind) (d : Cell) (ds rest : List Cell)
-    → piece_at progress (bytes_of (d ∷ (ds ++ rest))) ≡ Lexeme kind (length (d ∷ ds))
+token_last : (language : Language) (progress : Progress) (kind : Kind) (d : Cell) (ds rest : List Cell)
+    → piece_at language progress (bytes_of (d ∷ (ds ++ rest))) ≡ Lexeme kind (length (d ∷ ds))
     → on_line (last_cell d ds).byte ≡ true
-token_last progress kind d ds rest piece =
+token_last language progress kind d ds rest piece =
     let one : length (d ∷ ds) - 1 ≡ length ds = omega arith in
-    let on = (token_on_line progress d.byte (bytes_of (ds ++ rest)) kind (length (d ∷ ds)) piece).1 0 in
+    let on = (token_on_line language progress d.byte (bytes_of (ds ++ rest)) kind (length (d ∷ ds)) piece).1 0 in
     ap on_line (sym (last_byte d ds rest 0) ∙ ap (λ k. get_or (bytes_of (d ∷ (ds ++ rest))) k 0) (sym one)) ∙ on
 
 ---- the end of a line
@@ -113,10 +113,10 @@ pub walk_empty : (language : Language) {progress : Progress} {space : Bool} {cel
     → Walk language later other cells ls
 walk_empty language at_end n ms is later other = cc
 walk_empty language {progress} (over_gap c cs rest piece more cells at) n ms is later other =
-    over_gap c cs rest (any_progress progress later c.byte (bytes_of (cs ++ rest)) (Blank (length (c ∷ cs))) piece
+    over_gap c cs rest (any_progress language progress later c.byte (bytes_of (cs ++ rest)) (Blank (length (c ∷ cs))) piece
     (λ t. t)) (walk_empty language more n ms is later true) cells at
 walk_empty language {progress} (over_end c rest piece more) n ms is later other =
-    over_end c rest (any_progress progress later c.byte (bytes_of rest) NewLine piece (λ t. t)) more
+    over_end c rest (any_progress language progress later c.byte (bytes_of rest) NewLine piece (λ t. t)) more
 walk_empty language {progress} {space} (over_token {ls = ls} kind c cs rest piece more cells at) n ms is later other =
     absurd (no_empty (token_from space kind c cs) ls ms n is)
 
@@ -176,7 +176,7 @@ line_tail language {progress} {space} (over_token {ls = ls} kind d ds rest piece
     let off = token_off (token_from space kind d ds) ls t ts n ms is in
     let joint : last_cell c (before ++ (d ∷ ds)) ≡ last_cell d ds = last_cell-append c before d ds in
     let here : on_line (last_cell c (before ++ (d ∷ ds))).byte ≡ true = ap (λ (x : Cell). on_line x.byte) joint
-    ∙ token_last progress kind d ds rest piece in
+    ∙ token_last language progress kind d ds rest piece in
     let r = line_tail language more ts n ms off.1 c (before ++ (d ∷ ds)) (λ e. here) in
     let ends : last_of c (before ++ (d ∷ ds)) ≡ t.last = last_of-is c (before ++ (d ∷ ds))
     ∙ ap (λ (x : Cell). x.last) joint ∙ sym (last_of-is d ds) ∙ ap (λ (x : Tok). x.last) off.0 in
@@ -217,10 +217,10 @@ walk_goes_on : (language : Language) {progress : Progress} {space : Bool} {cells
     → goes_on (bytes_of cells) ≡ true
 walk_goes_on language at_end t ts n ms is = cc
 walk_goes_on language {progress} (over_gap d ds rest piece more cells at) t ts n ms is =
-    ap (λ xs. goes_on (bytes_of xs)) at ∙ gap_byte progress d.byte (length (d ∷ ds)) (bytes_of (ds ++ rest)) piece
+    ap (λ xs. goes_on (bytes_of xs)) at ∙ gap_byte language progress d.byte (length (d ∷ ds)) (bytes_of (ds ++ rest)) piece
 walk_goes_on language (over_end {ls = ls} d rest piece more) t ts n ms is = absurd (no_tokens t ts d.line n ls ms is)
 walk_goes_on language {progress} (over_token kind d ds rest piece more cells at) t ts n ms is =
-    ap (λ xs. goes_on (bytes_of xs)) at ∙ (token_on_line progress d.byte (bytes_of (ds ++ rest)) kind
+    ap (λ xs. goes_on (bytes_of xs)) at ∙ (token_on_line language progress d.byte (bytes_of (ds ++ rest)) kind
     (length (d ∷ ds)) piece).0
 
 -- pieces of cells
@@ -230,15 +230,15 @@ bytes_of-append xs ys = map-append (λ (c : Cell). c.byte) xs ys
 length-bytes : (xs : List Cell) → length (bytes_of xs) ≡ length xs
 length-bytes xs = length-map xs (λ (c : Cell). c.byte)
 
-gap_cells : (progress : Progress) (d : Cell) (ds old new : List Cell) → goes_on (bytes_of old) ≡ true
-    → piece_at progress (bytes_of (d ∷ (ds ++ old))) ≡ Blank (length (d ∷ ds))
-    → piece_at progress (bytes_of (d ∷ (ds ++ new))) ≡ Blank (length (d ∷ ds))
-gap_cells progress d ds old new on is =
+gap_cells : (language : Language) (progress : Progress) (d : Cell) (ds old new : List Cell) → goes_on (bytes_of old) ≡ true
+    → piece_at language progress (bytes_of (d ∷ (ds ++ old))) ≡ Blank (length (d ∷ ds))
+    → piece_at language progress (bytes_of (d ∷ (ds ++ new))) ≡ Blank (length (d ∷ ds))
+gap_cells language progress d ds old new on is =
     let size : length (d.byte ∷ bytes_of ds) ≡ length (d ∷ ds) = length-bytes (d ∷ ds) in
-    let here : piece_at progress (d.byte ∷ (bytes_of ds ++ bytes_of old)) ≡ Blank (length (d.byte ∷ bytes_of ds)) =
-    ap (λ xs. piece_at progress (d.byte ∷ xs)) (sym (bytes_of-append ds old)) ∙ is ∙ ap Blank (sym size) in
-    ap (λ xs. piece_at progress (d.byte ∷ xs)) (bytes_of-append ds new)
-    ∙ gap_same progress d.byte (bytes_of ds) (bytes_of old) (bytes_of new) on here ∙ ap Blank size
+    let here : piece_at language progress (d.byte ∷ (bytes_of ds ++ bytes_of old)) ≡ Blank (length (d.byte ∷ bytes_of ds)) =
+    ap (λ xs. piece_at language progress (d.byte ∷ xs)) (sym (bytes_of-append ds old)) ∙ is ∙ ap Blank (sym size) in
+    ap (λ xs. piece_at language progress (d.byte ∷ xs)) (bytes_of-append ds new)
+    ∙ gap_same language progress d.byte (bytes_of ds) (bytes_of old) (bytes_of new) on here ∙ ap Blank size
 
 lf_behind : (xs ys : List ℕ) → has_lf ys ≡ true → has_lf (xs ++ ys) ≡ true
 lf_behind [] ys lf = lf
@@ -248,11 +248,11 @@ lf_behind (x ∷ xs) ys lf = by (x == 10) (lf_behind xs ys lf) where
   by false is = is
 
 -- a piece, some text that holds an LF, and what comes after it
-same_cells : (progress : Progress) (d : Cell) (ds x old new : List Cell) (p : Piece) → has_lf (bytes_of x) ≡ true
+same_cells : (language : Language) (progress : Progress) (d : Cell) (ds x old new : List Cell) (p : Piece) → has_lf (bytes_of x) ≡ true
     → piece_len p ≡ length (d ∷ ds) → p ≢ Unclosed
-    → piece_at progress (bytes_of (d ∷ (ds ++ (x ++ old)))) ≡ p
-    → piece_at progress (bytes_of (d ∷ (ds ++ (x ++ new)))) ≡ p
-same_cells progress d ds x old new p lf size closed is =
+    → piece_at language progress (bytes_of (d ∷ (ds ++ (x ++ old)))) ≡ p
+    → piece_at language progress (bytes_of (d ∷ (ds ++ (x ++ new)))) ≡ p
+same_cells language progress d ds x old new p lf size closed is =
     let front : List ℕ = bytes_of ds ++ bytes_of x in
     let holds : has_lf (d.byte ∷ front) ≡ true = lf_behind (bytes_of (d ∷ ds)) (bytes_of x) lf in
     let fits : piece_len p ≤ length (d.byte ∷ front) =
@@ -260,9 +260,9 @@ same_cells progress d ds x old new p lf size closed is =
     let text : (w : List Cell) → bytes_of (ds ++ (x ++ w)) ≡ front ++ bytes_of w =
     λ w. bytes_of-append ds (x ++ w) ∙ ap (λ ys. bytes_of ds ++ ys) (bytes_of-append x w)
     ∙ sym (append_assoc (bytes_of ds) (bytes_of x) (bytes_of w)) in
-    ap (λ xs. piece_at progress (d.byte ∷ xs)) (text new)
-    ∙ piece_same progress d.byte front (bytes_of old) (bytes_of new) p holds
-    (ap (λ xs. piece_at progress (d.byte ∷ xs)) (sym (text old)) ∙ is) fits closed
+    ap (λ xs. piece_at language progress (d.byte ∷ xs)) (text new)
+    ∙ piece_same language progress d.byte front (bytes_of old) (bytes_of new) p holds
+    (ap (λ xs. piece_at language progress (d.byte ∷ xs)) (sym (text old)) ∙ is) fits closed
 
 first_token : (language : Language) {progress : Progress} {space : Bool} {cells : List Cell} {ls : List TokenLine}
     → Walk language progress space cells ls
@@ -286,14 +286,14 @@ first_token language {progress} {space} (over_gap d ds rest piece more cells at)
       more = r.more;
       lf = λ l others e. cc;
       front = λ s w ks is_space walks.
-          over_gap d ds (r.before ++ (s ∷ w)) (gap_cells progress d ds rest (r.before ++ (s ∷ w)) on piece)
+          over_gap d ds (r.before ++ (s ∷ w)) (gap_cells language progress d ds rest (r.before ++ (s ∷ w)) on piece)
           (r.front s w ks is_space walks)
           (d ∷ ((ds ++ r.before) ++ (s ∷ w))) (ap (λ xs. d ∷ xs) (append_assoc ds r.before (s ∷ w)));
     }
 first_token language (over_end {ls = ls} d rest piece more) t ts n ms is = absurd (no_tokens t ts d.line n ls ms is)
 first_token language {progress} {space} (over_token {ls = ls} kind d ds rest piece more cells at) t ts n ms is =
     let off = token_off (token_from space kind d ds) ls t ts n ms is in
-    let r = line_tail language more ts n ms off.1 d ds (λ e. token_last progress kind d ds rest piece) in
+    let r = line_tail language more ts n ms off.1 d ds (λ e. token_last language progress kind d ds rest piece) in
     let ends : last_of d ds ≡ t.last = ap (λ (x : Tok). x.last) off.0 in
     record {
       before = [];
@@ -303,7 +303,7 @@ first_token language {progress} {space} (over_token {ls = ls} kind d ds rest pie
       all = at ∙ ap (λ xs. d ∷ (ds ++ xs)) r.all ∙ ap (λ xs. d ∷ xs) (sym (append_assoc ds r.tokens r.rest));
       first = ap (λ (x : Tok). x.first) off.0;
       last = r.last ∙ ap (λ e. end_of e ts) ends;
-      first_byte = (token_on_line progress d.byte (bytes_of (ds ++ rest)) kind (length (d ∷ ds)) piece).0;
+      first_byte = (token_on_line language progress d.byte (bytes_of (ds ++ rest)) kind (length (d ∷ ds)) piece).0;
       last_byte = r.byte;
       more = r.more;
       lf = λ l others e. cc;
@@ -336,8 +336,8 @@ reach_line language {progress} {space} (over_gap d ds rest piece more cells at) 
     let r = reach_line language more (l ∷ ls) t ts n ms is (λ e. cc) in
     let after : List Cell = r.c ∷ (r.cs ++ r.rest) in
     let held = r.lf l ls refl in
-    let here : piece_at progress (bytes_of (d ∷ (ds ++ (r.before ++ after)))) ≡ Blank (length (d ∷ ds)) =
-    ap (λ xs. piece_at progress (bytes_of (d ∷ (ds ++ xs)))) (sym r.all) ∙ piece in
+    let here : piece_at language progress (bytes_of (d ∷ (ds ++ (r.before ++ after)))) ≡ Blank (length (d ∷ ds)) =
+    ap (λ xs. piece_at language progress (bytes_of (d ∷ (ds ++ xs)))) (sym r.all) ∙ piece in
     record {
       before = d ∷ (ds ++ r.before);
       c = r.c;
@@ -351,7 +351,7 @@ reach_line language {progress} {space} (over_gap d ds rest piece more cells at) 
       more = r.more;
       lf = λ k others e. lf_later d ds r.before held;
       front = λ s w ks is_space walks.
-          over_gap d ds (r.before ++ (s ∷ w)) (same_cells progress d ds r.before after (s ∷ w)
+          over_gap d ds (r.before ++ (s ∷ w)) (same_cells language progress d ds r.before after (s ∷ w)
           (Blank (length (d ∷ ds))) held refl (λ e. cc) here)
           (r.front s w ks is_space walks) (d ∷ ((ds ++ r.before) ++ (s ∷ w)))
           (ap (λ xs. d ∷ xs) (append_assoc ds r.before (s ∷ w)));
@@ -360,7 +360,7 @@ reach_line language {progress} {space} (over_end {ls = all} d rest piece more) (
     let tail : all ≡ ls ++ (line (t ∷ ts) n ∷ ms) = ap later_lines is in
     let head : empty_line d.line ≡ l = ap (first_or l) is in
     let r = reach_line language more ls t ts n ms tail (λ e. refl) in
-    let byte : d.byte ≡ 10 = new_line_byte progress d.byte (bytes_of rest) piece in
+    let byte : d.byte ≡ 10 = new_line_byte language progress d.byte (bytes_of rest) piece in
     record {
       before = d ∷ r.before;
       c = r.c;
@@ -375,7 +375,7 @@ reach_line language {progress} {space} (over_end {ls = all} d rest piece more) (
       lf = λ k others e. ap (λ b. (b == 10) || has_lf (bytes_of r.before)) byte;
       front = λ s w ks is_space walks.
           subst (λ k. Walk language progress space (d ∷ (r.before ++ (s ∷ w))) (k ∷ (ls ++ ks))) head
-          (over_end d (r.before ++ (s ∷ w)) (ap (λ b. piece_at progress (b ∷ bytes_of (r.before ++ (s ∷ w)))) byte)
+          (over_end d (r.before ++ (s ∷ w)) (ap (λ b. piece_at language progress (b ∷ bytes_of (r.before ++ (s ∷ w)))) byte)
           (r.front s w ks is_space walks));
     }
 reach_line language {progress} {space} (over_token {ls = all} kind d ds rest piece more cells at) (l ∷ ls) t ts n ms is begun =
@@ -383,8 +383,8 @@ reach_line language {progress} {space} (over_token {ls = all} kind d ds rest pie
     let r = reach_line language more (off.0 ∷ ls) t ts n ms off.1 (λ e. cc) in
     let after : List Cell = r.c ∷ (r.cs ++ r.rest) in
     let held = r.lf off.0 ls refl in
-    let here : piece_at progress (bytes_of (d ∷ (ds ++ (r.before ++ after)))) ≡ Lexeme kind (length (d ∷ ds)) =
-    ap (λ xs. piece_at progress (bytes_of (d ∷ (ds ++ xs)))) (sym r.all) ∙ piece in
+    let here : piece_at language progress (bytes_of (d ∷ (ds ++ (r.before ++ after)))) ≡ Lexeme kind (length (d ∷ ds)) =
+    ap (λ xs. piece_at language progress (bytes_of (d ∷ (ds ++ xs)))) (sym r.all) ∙ piece in
     record {
       before = d ∷ (ds ++ r.before);
       c = r.c;
@@ -400,7 +400,7 @@ reach_line language {progress} {space} (over_token {ls = all} kind d ds rest pie
       front = λ s w ks is_space walks.
           subst (λ k. Walk language progress space (d ∷ ((ds ++ r.before) ++ (s ∷ w))) (k ∷ (ls ++ ks))) (sym off.2)
           (over_token kind d ds (r.before ++ (s ∷ w))
-          (same_cells progress d ds r.before after (s ∷ w) (Lexeme kind (length (d ∷ ds))) held refl (λ e. cc) here)
+          (same_cells language progress d ds r.before after (s ∷ w) (Lexeme kind (length (d ∷ ds))) held refl (λ e. cc) here)
           (r.front s w ks is_space walks) (d ∷ ((ds ++ r.before) ++ (s ∷ w)))
           (ap (λ xs. d ∷ xs) (append_assoc ds r.before (s ∷ w))));
     }
@@ -424,7 +424,7 @@ walk_gone language (c ∷ cs) rest ks (inl blank, are) walks space =
     let r = walk_gone language cs rest ks are walks true in (
       r.0,
       r.1,
-      over_gap c [] (cs ++ rest) (ap (λ b. piece_at AtStart (b ∷ bytes_of (cs ++ rest))) blank) r.2
+      over_gap c [] (cs ++ rest) (ap (λ b. piece_at language AtStart (b ∷ bytes_of (cs ++ rest))) blank) r.2
           (c ∷ (cs ++ rest)) refl,
     )
 walk_gone language (c ∷ cs) rest ks (inr lf, are) walks space =
@@ -432,7 +432,7 @@ walk_gone language (c ∷ cs) rest ks (inr lf, are) walks space =
       empty_line c.line ∷ r.0,
       (refl, r.1),
       over_end c (cs ++ rest)
-          (ap (λ b. piece_at AtStart (b ∷ bytes_of (cs ++ rest))) lf) r.2,
+          (ap (λ b. piece_at language AtStart (b ∷ bytes_of (cs ++ rest))) lf) r.2,
     )
 
 -- a line of tokens gives way to them
@@ -449,5 +449,5 @@ walk_blanked language {n = n} {ms = ms} r s gone is_space are =
       g.1,
       r.front s (gone ++ r.rest) (g.0 ++ (empty_line n ∷ ms)) is_space
           (λ other. over_gap s [] (gone ++ r.rest) (ap
-          (λ b. piece_at AtStart (b ∷ bytes_of (gone ++ r.rest))) is_space) g.2 (s ∷ (gone ++ r.rest)) refl),
+          (λ b. piece_at language AtStart (b ∷ bytes_of (gone ++ r.rest))) is_space) g.2 (s ∷ (gone ++ r.rest)) refl),
     )

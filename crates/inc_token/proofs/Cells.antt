@@ -1,5 +1,5 @@
 -- A walk over the cells of a text: what `lines_from` gives at a place, from what is there.
-use Rattle.inc_token.specs.declared.kinds.Language.{Language}
+use Rattle.inc_text.specs.declared.languages.Language.{Language}
 use Rattle.std.proofs.Common.{◌≡◌, ℕ, zero, suc, ◌+◌, ◌-◌, ◌<◌, ◌≤◌, Bool, true, false, cond, List, [], ◌∷◌, Some, Result, Ok, Err, length, drop, refl, sym, ap, ◌∙◌, arith, slice_get}
 use Rattle.std.specs.Bool.{if◌then◌else◌}
 use Rattle.std.specs.List.{prefix_len}
@@ -24,7 +24,7 @@ drop-pos zero c cs h = absurd (omega arith)
 drop-pos (suc n) c cs h = let e : suc n - 1 ≡ n = omega arith in ap (λ k. drop k cs) e
 
 -- one piece
-pub lines_from-piece : (language : Language) (progress : Progress) (space : Bool) (c : Cell) (cs : List Cell) (piece : Piece) → piece_at progress (bytes_of (c ∷ cs)) ≡ piece → 1 ≤ piece_len piece
+pub lines_from-piece : (language : Language) (progress : Progress) (space : Bool) (c : Cell) (cs : List Cell) (piece : Piece) → piece_at language progress (bytes_of (c ∷ cs)) ≡ piece → 1 ≤ piece_len piece
     → lines_from language 0 progress space (c ∷ cs)
     ≡ with_piece space piece c cs (lines_from language 0 (progress_after language progress piece (bytes_of (c ∷ cs))) (is_space piece) (drop (piece_len piece) (c ∷ cs)))
 lines_from-piece language progress space c cs piece is pos =
@@ -41,8 +41,8 @@ pub if_true : {A : Type 0} (t : Bool) (x y : A) → t ≡ true → (if t then x 
 if_true true x y is = refl
 if_true false x y is = cc
 
-piece_at-blank : (progress : Progress) (b : ℕ) (bs : List ℕ) → is_blank b ≡ true → piece_at progress (b ∷ bs) ≡ Blank 1
-piece_at-blank progress b bs is = if_true (is_blank b) (Blank 1) _ is
+piece_at-blank : (language : Language) (progress : Progress) (b : ℕ) (bs : List ℕ) → is_blank b ≡ true → piece_at language progress (b ∷ bs) ≡ Blank 1
+piece_at-blank language progress b bs is = if_true (is_blank b) (Blank 1) _ is
 
 pub with_piece-blank : (space : Bool) (n : ℕ) (c : Cell) (cs : List Cell) (rest : Result (List TokenLine) LexFault) → with_piece space (Blank n) c cs rest ≡ rest
 with_piece-blank space n c cs (Ok lines) = refl
@@ -54,7 +54,7 @@ with_piece-open space c cs (Err fault) = refl
 
 pub one_space : (language : Language) (progress : Progress) (space : Bool) (c : Cell) (cs : List Cell) → is_blank c.byte ≡ true → lines_from language 0 progress space (c ∷ cs) ≡ lines_from language 0 progress true cs
 one_space language progress space c cs is =
-    lines_from-piece language progress space c cs (Blank 1) (piece_at-blank progress c.byte (bytes_of cs) is) (omega arith)
+    lines_from-piece language progress space c cs (Blank 1) (piece_at-blank language progress c.byte (bytes_of cs) is) (omega arith)
     ∙ with_piece-blank space 1 c cs (lines_from language 0 progress true cs)
 
 -- a run of it
@@ -114,7 +114,7 @@ range_end-is (suc n) c (b ∷ cs) d is = range_end-is n b cs d is
 
 -- what is left at a place, from what is there
 pub at_place : (language : Language) (cells : List Cell) (at : ℕ) (progress : Progress) (space : Bool) (piece : Piece) (c : Cell) (cs : List Cell) → drop at cells ≡ c ∷ cs
-    → piece_at progress (drop at (bytes_of cells)) ≡ piece → 1 ≤ piece_len piece
+    → piece_at language progress (drop at (bytes_of cells)) ≡ piece → 1 ≤ piece_len piece
     → lines_from language 0 progress space (drop at cells)
     ≡ with_piece space piece c cs (lines_from language 0 (progress_after language progress piece (drop at (bytes_of cells))) (is_space piece) (drop (at + piece_len piece) cells))
 at_place language cells at progress space piece c cs here is pos =
@@ -123,6 +123,6 @@ at_place language cells at progress space piece c cs here is pos =
     let N : List ℕ → List Cell → Result (List TokenLine) LexFault =
     λ t r. with_piece space piece c cs (lines_from language 0 (progress_after language progress piece t) (is_space piece) r) in
     ap (lines_from language 0 progress space) here
-    ∙ lines_from-piece language progress space c cs piece (ap (piece_at progress) (sym text) ∙ is) pos
+    ∙ lines_from-piece language progress space c cs piece (ap (piece_at language progress) (sym text) ∙ is) pos
     ∙ ap (λ r. N (bytes_of (c ∷ cs)) r) rest
     ∙ ap (λ t. N t (drop (at + piece_len piece) cells)) (sym text)

@@ -8,8 +8,9 @@ use Rattle.inc_token.specs.declared.pieces.Piece.TheVariants.{Blank, NewLine, Le
 use Rattle.inc_token.specs.declared.pieces.Progress.{Progress}
 use Rattle.inc_token.specs.declared.pieces.Progress.TheVariants.{AfterInclude}
 use Rattle.inc_token.specs.TokenLines.{block_comment, line_comment}
-use Rattle.inc_token.specs.Spellings.{is_blank, is_letter, identifier_part, number_part, begins_number}
+use Rattle.inc_token.specs.Spellings.{begins_nondigit, is_blank, is_letter, identifier_part, number_part, begins_number}
 use Rattle.inc_token.specs.Scanning.{begins_with_byte, closed_at, header_name_len, is_wide, lexeme_or_other, punctuator_len, quoted_len, row_len, wide_str_len, wide_token}
+use Rattle.inc_text.specs.declared.languages.Language.{Language}
 
 -- what a comment is of which n bytes are known, by the length of the rest
 abbrev pub comment_of : ℕ → Option ℕ → Piece
@@ -21,26 +22,26 @@ abbrev pub line_len : List ℕ → ℕ
 line_len text = prefix_len (λ b. not (b == line_feed)) text
 
 -- the token at the front of a text that begins with no white space and no LF, by its first byte
-abbrev pub first_token : List ℕ → Piece
-first_token [] = NewLine
-first_token (b ∷ bs) =
-    let word = row_len identifier_part 0 (b ∷ bs) in
-    if begins_number (b ∷ bs) then Lexeme Number (row_len number_part 0 (b ∷ bs)) else
+abbrev pub first_token : Language → List ℕ → Piece
+first_token language [] = NewLine
+first_token language (b ∷ bs) =
+    let word = row_len (identifier_part language) 0 (b ∷ bs) in
+    if begins_number (b ∷ bs) then Lexeme Number (row_len (number_part language) 0 (b ∷ bs)) else
     if is_wide b then wide_token (quoted_len apostrophe 1 bs) (wide_str_len b bs) word else
-    if is_letter b || (b == backslash) then lexeme_or_other Identifier word else
+    if is_letter b || begins_nondigit language b then lexeme_or_other Identifier word else
     if b == quotation_mark then lexeme_or_other Str (closed_at quotation_mark false 1 bs) else
     if b == apostrophe then lexeme_or_other Char (closed_at apostrophe false 1 bs) else lexeme_or_other Punct (punctuator_len (b ∷ bs))
 
 -- the same, where a header name may count
-abbrev pub token_by : Progress → List ℕ → Piece
-token_by AfterInclude text = if nat_lt 0 (header_name_len text) then Lexeme HeaderName (header_name_len text) else first_token text
-token_by _ text = first_token text
+abbrev pub token_by : Language → Progress → List ℕ → Piece
+token_by language AfterInclude text = if nat_lt 0 (header_name_len text) then Lexeme HeaderName (header_name_len text) else first_token language text
+token_by language _ text = first_token language text
 
 -- what is at the front, by the first two bytes
-abbrev pub piece_by : Progress → List ℕ → Piece
-piece_by progress [] = NewLine
-piece_by progress (b ∷ bs) =
+abbrev pub piece_by : Language → Progress → List ℕ → Piece
+piece_by language progress [] = NewLine
+piece_by language progress (b ∷ bs) =
     if is_blank b then Blank 1 else
     if b == line_feed then NewLine else
     if (b == slash) && begins_with_byte asterisk bs then block_comment (b ∷ bs) else
-    if (b == slash) && begins_with_byte slash bs then line_comment (b ∷ bs) else token_by progress (b ∷ bs)
+    if (b == slash) && begins_with_byte slash bs then line_comment (b ∷ bs) else token_by language progress (b ∷ bs)

@@ -1,5 +1,5 @@
 -- The place of a walk over the front of a line, as it goes on.
-use Rattle.inc_token.specs.declared.kinds.Language.{Language}
+use Rattle.inc_text.specs.declared.languages.Language.{Language}
 use Rattle.std.proofs.Common.{◌≡◌, ℕ, zero, suc, subst, ◌+◌, ◌-◌, ◌<◌, ◌≤◌, ◌==◌, ◌&&◌, not, Bool, true, false, List, [], ◌∷◌, ◌++◌, Option, Some, None, Result, Err, IfSome, length, take, drop, get_or, cond, slice_get, slice_range, option_map, Ok, refl, sym, ap, ◌∙◌, arith}
 use Rattle.std.specs.List.{All, list_all, prefix_len}
 use Rattle.std.specs.Option.{option_map_or}
@@ -43,16 +43,16 @@ pub run_within : (p : ℕ → Bool) (bytes : List ℕ) (at after : ℕ) → afte
 run_within p bytes at after is le = omega (arith, is, prefix_len-le-length p (drop at bytes), length-drop at bytes)
 
 -- what is at a place and is no new-line lies within the text
-text_left : (progress : Progress) (piece : Piece) (text : List ℕ) → piece ≡ piece_at progress text → (piece ≡ NewLine → ⊥) → 0 < length text
-text_left progress piece [] is other = absurd (other is)
-text_left progress piece (b ∷ bs) is other = omega arith
+text_left : (language : Language) (progress : Progress) (piece : Piece) (text : List ℕ) → piece ≡ piece_at language progress text → (piece ≡ NewLine → ⊥) → 0 < length text
+text_left language progress piece [] is other = absurd (other is)
+text_left language progress piece (b ∷ bs) is other = omega arith
 
-pub piece_left : (bytes : List ℕ) (at : ℕ) (progress : Progress) (piece : Piece) → piece ≡ piece_at progress (drop at bytes) → (piece ≡ NewLine → ⊥)
+pub piece_left : (language : Language) (bytes : List ℕ) (at : ℕ) (progress : Progress) (piece : Piece) → piece ≡ piece_at language progress (drop at bytes) → (piece ≡ NewLine → ⊥)
     → (at < length bytes) × (1 ≤ piece_len piece) × (at + piece_len piece ≤ length bytes)
-piece_left bytes at progress piece is other =
-    let some = text_left progress piece (drop at bytes) is other in
+piece_left language bytes at progress piece is other =
+    let some = text_left language progress piece (drop at bytes) is other in
     let lt : at < length bytes = omega (arith, some, length-drop at bytes) in
-    let fits = piece_fits bytes at progress piece lt is in
+    let fits = piece_fits language bytes at progress piece lt is in
     (lt, fits.0, fits.1)
 
 -- the token after `include`, or the end of the line
@@ -70,7 +70,7 @@ name_taken line old new name is_include taken is =
     taken.1 ∙ ap (λ x. ahead_of (cond x (Include line name.spelling.now) (Known none)) new) is
 
 -- the first token of a line, which begins a directive or not
-module _ (w : Walk) (n : ℕ) (kind : Kind) (h : IsPlaced w) (some : 1 ≤ n) (fits : w.at + n ≤ length w.cursor) (stands : piece_at AtStart (drop w.at w.bytes.now) ≡ Lexeme kind n) where
+module _ (w : Walk) (n : ℕ) (kind : Kind) (h : IsPlaced w) (some : 1 ≤ n) (fits : w.at + n ≤ length w.cursor) (stands : piece_at w.language AtStart (drop w.at w.bytes.now) ≡ Lexeme kind n) where
   same_word : take n (drop w.at w.bytes.now) ≡ slice_range w.bytes.now w.at (w.at + n)
   same_word = let len : n ≡ w.at + n - w.at = omega arith in ap (λ k. take k (drop w.at w.bytes.now)) len
 
@@ -96,28 +96,28 @@ not_true : (x : Bool) → not x ≡ true → x ≡ false
 not_true true is = cc
 not_true false is = refl
 
-no_number : (bs : List ℕ) → begins_number (35 ∷ bs) ≡ false
-no_number [] = refl
-no_number (b ∷ bs) = refl
+no_number : (language : Language) (bs : List ℕ) → begins_number (35 ∷ bs) ≡ false
+no_number language [] = refl
+no_number language (b ∷ bs) = refl
 
 no_second : (bs : List ℕ) → begins_with_byte 35 bs ≡ false → (get_or (35 ∷ bs) 1 0 == 35) ≡ false
 no_second [] single = refl
 no_second (b ∷ bs) single = single
 
-hash_token : (bs : List ℕ) → begins_with_byte 35 bs ≡ false → first_token (35 ∷ bs) ≡ Lexeme Punct 1
-hash_token bs single =
+hash_token : (language : Language) (bs : List ℕ) → begins_with_byte 35 bs ≡ false → first_token language (35 ∷ bs) ≡ Lexeme Punct 1
+hash_token language bs single =
     let text = 35 ∷ bs in
     let len : punctuator_len text ≡ 1 = punctuator_len-symbol text ∙ cond-false (get_or text 1 0 == 35) 2 1 (no_second bs single) in
-    cond-false (begins_number text) (Lexeme Number (row_len number_part 0 text)) (lexeme_or_other Punct (punctuator_len text)) (no_number bs)
+    cond-false (begins_number text) (Lexeme Number (row_len (number_part language) 0 text)) (lexeme_or_other Punct (punctuator_len text)) (no_number language bs)
     ∙ ap (lexeme_or_other Punct) len
 
-pub hash_at : (text : List ℕ) (at : ℕ) → at < length text → (get_or text at 0 == 35) && not (begins_with_byte 35 (drop (at + 1) text)) ≡ true
-    → piece_at AtStart (drop at text) ≡ Lexeme Punct 1
-hash_at text at lt is =
+pub hash_at : (language : Language) (text : List ℕ) (at : ℕ) → at < length text → (get_or text at 0 == 35) && not (begins_with_byte 35 (drop (at + 1) text)) ≡ true
+    → piece_at language AtStart (drop at text) ≡ Lexeme Punct 1
+hash_at language text at lt is =
     let parts = and_parts (get_or text at 0 == 35) (not (begins_with_byte 35 (drop (at + 1) text))) is in
     let rest = drop (at + 1) text in
     let head : drop at text ≡ 35 ∷ rest = drop_more text at 0 lt ∙ ap (λ b. b ∷ rest) (eqb-true (get_or text at 0) 35 parts.0) in
-    sym (piece_at-is AtStart text at lt) ∙ ap (piece_by AtStart) head ∙ hash_token rest (not_true (begins_with_byte 35 rest) parts.1)
+    sym (piece_at-is language AtStart text at lt) ∙ ap (piece_by language AtStart) head ∙ hash_token language rest (not_true (begins_with_byte 35 rest) parts.1)
 
 -- a line that has ended, and a text that ends inside a line
 module _ (old mid new : Walk) (start : ℕ) (b : Brief) (ahead_is : ahead old.language Nothing (drop start old.cursor) ≡ ahead_of (Known b) mid) where

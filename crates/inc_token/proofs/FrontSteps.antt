@@ -1,5 +1,5 @@
 -- What is ahead of a walk over the front of a line, before and after what is at its place is taken.
-use Rattle.inc_token.specs.declared.kinds.Language.{Language}
+use Rattle.inc_text.specs.declared.languages.Language.{Language}
 use Rattle.std.proofs.Common.{◌≡◌, ℕ, zero, suc, ◌+◌, ◌-◌, ◌<◌, ◌≤◌, ◌==◌, Bool, true, false, cond, List, [], ◌∷◌, Option, Some, None, Result, Ok, Err, length, take, drop, get_or, refl, sym, ap, ◌∙◌, arith, slice_get, option_map, codes, nat_eq}
 use Rattle.std.specs.List.{All, AllWithin, prefix_len, starts_with}
 use Rattle.std.specs.Option.{option_map_or}
@@ -57,7 +57,7 @@ blind language begun s t [] = refl
 blind language begun s t (c ∷ cs) =
     let progress = progress_of begun in
     let text = bytes_of (c ∷ cs) in
-    let piece = piece_at progress text in
+    let piece = piece_at language progress text in
     blind_piece language begun s t piece c cs (lines_from language (piece_len piece - 1) (progress_after language progress piece text) (is_space piece) cs)
 
 pub ahead-by : (language : Language) (begun : Begun) (space : Bool) (cells : List Cell) → ahead language begun cells ≡ first_from language begun (lines_from language 0 (progress_of begun) space cells)
@@ -83,14 +83,14 @@ pub ahead-spaces : (language : Language) (bytes : List ℕ) (cells : List Cell) 
 ahead-spaces language bytes cells at after begun text is = run_over language (prefix_len is_blank (drop at bytes)) bytes cells at after begun text is refl
 
 pub ahead-blank : (language : Language) (bytes : List ℕ) (cells : List Cell) (at n : ℕ) (begun : Begun) → bytes ≡ bytes_of cells → at < length cells
-    → Blank n ≡ piece_at (progress_of begun) (drop at bytes) → 1 ≤ n → ahead language begun (drop (at + n) cells) ≡ ahead language begun (drop at cells)
+    → Blank n ≡ piece_at language (progress_of begun) (drop at bytes) → 1 ≤ n → ahead language begun (drop (at + n) cells) ≡ ahead language begun (drop at cells)
 ahead-blank language bytes cells at n begun text within is pos =
     ahead-by language begun true (drop (at + n) cells)
     ∙ ap (first_from language begun) (blank_at language bytes cells at n (progress_of begun) false text within is pos)
     ∙ sym (ahead-by language begun false (drop at cells))
 
 pub ahead-open : (language : Language) (bytes : List ℕ) (cells : List Cell) (at : ℕ) (begun : Begun) (first last line : ℕ) → bytes ≡ bytes_of cells → at < length cells
-    → Unclosed ≡ piece_at (progress_of begun) (drop at bytes) → option_map range_and_line (slice_get cells at) ≡ Some (first, last, line)
+    → Unclosed ≡ piece_at language (progress_of begun) (drop at bytes) → option_map range_and_line (slice_get cells at) ≡ Some (first, last, line)
     → ahead language begun (drop at cells) ≡ Err (OpenComment line)
 ahead-open language bytes cells at begun first last line text within is place =
     ahead-by language begun false (drop at cells) ∙ ap (first_from language begun) (open_at language bytes cells at (progress_of begun) false first last line text within is place)
@@ -145,14 +145,14 @@ progress-with language (Include hash name) line o = refl
 progress-with language (Known b) line o = refl
 
 pub ahead-token : (language : Language) (bytes : List ℕ) (cells : List Cell) (at n : ℕ) (kind : Kind) (begun : Begun) (first last line : ℕ) → bytes ≡ bytes_of cells → at < length cells
-    → Lexeme kind n ≡ piece_at (progress_of begun) (drop at bytes) → 1 ≤ n → option_map range_and_line (slice_get cells at) ≡ Some (first, last, line)
+    → Lexeme kind n ≡ piece_at language (progress_of begun) (drop at bytes) → 1 ≤ n → option_map range_and_line (slice_get cells at) ≡ Some (first, last, line)
     → ahead language begun (drop at cells) ≡ ahead language (begun_with language begun line (operand kind (take n (drop at bytes)))) (drop (at + n) cells)
 ahead-token language bytes cells at n kind begun first last line text within is pos place =
     let cell = cell_at cells at within in
     let c : Cell = cell.0 in
     let cs : List Cell = cell.1 in
     let progress = progress_of begun in
-    let piece : piece_at progress (drop at (bytes_of cells)) ≡ Lexeme kind n = ap (λ t. piece_at progress (drop at t)) (sym text) ∙ sym is in
+    let piece : piece_at language progress (drop at (bytes_of cells)) ≡ Lexeme kind n = ap (λ t. piece_at language progress (drop at t)) (sym text) ∙ sym is in
     let from = line_at cells at c first last line cell.3 place in
     let on : c.line ≡ line = ap (λ (x : ℕ × ℕ × ℕ). x.2) from in
     let there : drop at bytes ≡ bytes_of (c ∷ cs) = ap (drop at) text ∙ bytes_of-drop at cells ∙ ap bytes_of cell.2 in
@@ -170,7 +170,7 @@ ahead-token language bytes cells at n kind begun first last line text within is 
     ∙ sym (ahead-by language next false rest)
 
 pub token_ahead : (language : Language) (bytes : List ℕ) (cells : List Cell) (at n : ℕ) (kind : Kind) (begun : Begun) → bytes ≡ bytes_of cells → at < length cells
-    → Lexeme kind n ≡ piece_at (progress_of begun) (drop at bytes) → 1 ≤ n
+    → Lexeme kind n ≡ piece_at language (progress_of begun) (drop at bytes) → 1 ≤ n
     → (line : ℕ) × (ahead language begun (drop at cells) ≡ ahead language (begun_with language begun line (operand kind (take n (drop at bytes)))) (drop (at + n) cells))
 token_ahead language bytes cells at n kind begun text within is pos =
     let cell = cell_at cells at within in
@@ -192,41 +192,41 @@ no_lexeme : (x : Bool) (k l : Kind) (m n : ℕ) → cond x (Lexeme k m) (Lexeme 
 no_lexeme true k l m n is = cc
 no_lexeme false k l m n is = cc
 
-no_token : (progress : Progress) (text : List ℕ) → token_at progress text ≡ NewLine → ⊥
-no_token AtStart text is = cc
-no_token AfterHash text is = cc
-no_token AfterInclude text is = no_lexeme _ _ _ _ _ is
-no_token Elsewhere text is = cc
+no_token : (language : Language) (progress : Progress) (text : List ℕ) → token_at language progress text ≡ NewLine → ⊥
+no_token language AtStart text is = cc
+no_token language AfterHash text is = cc
+no_token language AfterInclude text is = no_lexeme _ _ _ _ _ is
+no_token language Elsewhere text is = cc
 
-line_feed : (progress : Progress) (b : ℕ) (bs : List ℕ) → piece_at progress (b ∷ bs) ≡ NewLine → b ≡ 10
-line_feed progress b bs =
+line_feed : (language : Language) (progress : Progress) (b : ℕ) (bs : List ℕ) → piece_at language progress (b ∷ bs) ≡ NewLine → b ≡ 10
+line_feed language progress b bs =
     let text = b ∷ bs in
-    let token = token_at progress (line_part text) in
+    let token = token_at language progress (line_part text) in
     let P : Piece → Type 0 = λ p. p ≡ NewLine → b ≡ 10 in
     if_by P (is_blank b) (Blank 1) _ (λ _ is. cc)
     (λ _. if_by P (starts_with nat_eq text (codes "/*")) (block_comment text) _ (λ _ is. absurd (no_block (comment_rest (drop 2 text)) is))
     (λ _. if_by P (starts_with nat_eq text (codes "//")) (line_comment text) _ (λ _ is. cc)
-    (λ _. if_by P (b == 10) NewLine token (λ lf is. eqb-true b 10 lf) (λ _ is. absurd (no_token progress (line_part text) is)))))
+    (λ _. if_by P (b == 10) NewLine token (λ lf is. eqb-true b 10 lf) (λ _ is. absurd (no_token language progress (line_part text) is)))))
 
 ahead-end : (language : Language) (begun : Begun) (c : Cell) (cs : List Cell) → c.byte ≡ 10 → ahead language begun (c ∷ cs) ≡ first_with (brief_by language begun []) (token_lines language cs)
 ahead-end language begun c cs is =
     let progress = progress_of begun in
-    let piece : piece_at progress (bytes_of (c ∷ cs)) ≡ NewLine = ap (λ b. piece_at progress (b ∷ bytes_of cs)) is in
+    let piece : piece_at language progress (bytes_of (c ∷ cs)) ≡ NewLine = ap (λ b. piece_at language progress (b ∷ bytes_of cs)) is in
     ahead-by language begun false (c ∷ cs)
     ∙ ap (first_from language begun) (lines_from-piece language progress false c cs NewLine piece (omega arith))
     ∙ first-end language begun false c cs (token_lines language cs)
 
-end_known : (language : Language) (begun : Begun) (cells : List Cell) → piece_at (progress_of begun) (bytes_of cells) ≡ NewLine → ahead language begun cells ≡ ahead language (Known (brief_by language begun [])) cells
+end_known : (language : Language) (begun : Begun) (cells : List Cell) → piece_at language (progress_of begun) (bytes_of cells) ≡ NewLine → ahead language begun cells ≡ ahead language (Known (brief_by language begun [])) cells
 end_known language begun [] is = ahead-nil language begun ∙ sym (ahead-nil language (Known (brief_by language begun [])))
 end_known language begun (c ∷ cs) is =
-    let lf = line_feed (progress_of begun) c.byte (bytes_of cs) is in
+    let lf = line_feed language (progress_of begun) c.byte (bytes_of cs) is in
     ahead-end language begun c cs lf ∙ sym (ahead-end language (Known (brief_by language begun [])) c cs lf)
 
 -- where the line or the text ends, no token is left
-pub ahead-known : (language : Language) (bytes : List ℕ) (cells : List Cell) (at : ℕ) (begun : Begun) → bytes ≡ bytes_of cells → NewLine ≡ piece_at (progress_of begun) (drop at bytes)
+pub ahead-known : (language : Language) (bytes : List ℕ) (cells : List Cell) (at : ℕ) (begun : Begun) → bytes ≡ bytes_of cells → NewLine ≡ piece_at language (progress_of begun) (drop at bytes)
     → ahead language begun (drop at cells) ≡ ahead language (Known (brief_by language begun [])) (drop at cells)
 ahead-known language bytes cells at begun text is =
-    end_known language begun (drop at cells) (ap (piece_at (progress_of begun)) (sym (ap (drop at) text ∙ bytes_of-drop at cells)) ∙ sym is)
+    end_known language begun (drop at cells) (ap (piece_at language (progress_of begun)) (sym (ap (drop at) text ∙ bytes_of-drop at cells)) ∙ sym is)
 
 -- there is a line of which this is told
 
@@ -314,13 +314,13 @@ newline_line c cs (Err fault) = refl
 
 empty_line : (language : Language) (c : Cell) (cs : List Cell) → c.byte ≡ 10 → token_lines language (c ∷ cs) ≡ with_line (record { tokens = []; last_line = c.line }) (token_lines language cs)
 empty_line language c cs is =
-    let piece : piece_at AtStart (bytes_of (c ∷ cs)) ≡ NewLine = ap (λ b. piece_at AtStart (b ∷ bytes_of cs)) is in
+    let piece : piece_at language AtStart (bytes_of (c ∷ cs)) ≡ NewLine = ap (λ b. piece_at language AtStart (b ∷ bytes_of cs)) is in
     lines_from-piece language AtStart false c cs NewLine piece (omega arith) ∙ newline_line c cs (token_lines language cs)
 
-pub line_feed_piece : (bytes : List ℕ) (at : ℕ) → at < length bytes → get_or bytes at 0 ≡ 10 → NewLine ≡ piece_at AtStart (drop at bytes)
-line_feed_piece bytes at lt is =
+pub line_feed_piece : (language : Language) (bytes : List ℕ) (at : ℕ) → at < length bytes → get_or bytes at 0 ≡ 10 → NewLine ≡ piece_at language AtStart (drop at bytes)
+line_feed_piece language bytes at lt is =
     let head : drop at bytes ≡ 10 ∷ drop (at + 1) bytes = drop_more bytes at 0 lt ∙ ap (λ b. b ∷ drop (at + 1) bytes) is in
-    sym (ap (piece_at AtStart) head)
+    sym (ap (piece_at language AtStart) head)
 
 -- the cell of an LF
 feed_at : (bytes : List ℕ) (cells : List Cell) (at end : ℕ) → bytes ≡ bytes_of cells → end ≤ length bytes → at < end → AllWithin (λ b. b ≡ 10) bytes at end

@@ -2,7 +2,9 @@
 use Rattle.std.proofs.Common.{◌≡◌, ℕ, suc, ◌+◌, ◌-◌, ◌<◌, ◌&&◌, cond, List, [], ◌∷◌, length, get_or, eqb, nat_lt, refl, sym, ap, ◌∙◌, subst, arith}
 use Rattle.std.proofs.lemmas.Bool.{cond_both, and_parts, eqb-true, ltb-true}
 use Rattle.inc_text.specs.PhaseText.{Cell, cells_from, joined, without_mark, with_new_lines, with_trigraphs, spliced, trigraph, is_trigraph}
+use Rattle.inc_text.proofs.PhaseLemmas.{trigraph-line_feed}
 use Rattle.inc_token.proofs.PhaseSeams.{phases}
+use Rattle.inc_text.specs.declared.languages.Language.{Language}
 
 module _ (source : List ℕ) where
   -- where the first or the last source byte is LF, so is the byte
@@ -21,24 +23,24 @@ module _ (source : List ℕ) where
       (a ∷ with_new_lines (b ∷ r)) AreHonest
       (λ _. (((λ _. refl), (λ _. refl)), honest_new_lines r h.1.1)) (λ _. (h.0, honest_new_lines (b ∷ r) h.1))
 
-  honest_trigraphs : (cells : List Cell) → AreHonest cells → AreHonest (with_trigraphs cells)
-  honest_trigraphs [] h = h
-  honest_trigraphs (a ∷ []) h = h
-  honest_trigraphs (a ∷ b ∷ []) h = h
-  honest_trigraphs (a ∷ b ∷ c ∷ r) h =
-      cond_both (is_trigraph a.byte b.byte c.byte) (joined (trigraph c.byte) a c ∷ with_trigraphs r)
-      (a ∷ with_trigraphs (b ∷ c ∷ r)) AreHonest
+  honest_trigraphs : (language : Language) (cells : List Cell) → AreHonest cells → AreHonest (with_trigraphs language cells)
+  honest_trigraphs language [] h = h
+  honest_trigraphs language (a ∷ []) h = h
+  honest_trigraphs language (a ∷ b ∷ []) h = h
+  honest_trigraphs language (a ∷ b ∷ c ∷ r) h =
+      cond_both (is_trigraph language a.byte b.byte c.byte) (joined (trigraph language c.byte) a c ∷ with_trigraphs language r)
+      (a ∷ with_trigraphs language (b ∷ c ∷ r)) AreHonest
       (λ is.
-      let parts = and_parts (eqb a.byte 63 && eqb b.byte 63) (nat_lt 0 (trigraph c.byte)) is in
+      let parts = and_parts (eqb a.byte 63 && eqb b.byte 63) (nat_lt 0 (trigraph language c.byte)) is in
       let question : a.byte ≡ 63 = eqb-true a.byte 63 ((and_parts (eqb a.byte 63) (eqb b.byte 63) parts.0).0) in
-      let some : 0 < trigraph c.byte = ltb-true 0 (trigraph c.byte) parts.1 in (
+      let some : 0 < trigraph language c.byte = ltb-true 0 (trigraph language c.byte) parts.1 in (
         (
           (λ at. absurd (omega (arith, question, h.0.0 at))),
-          (λ at. absurd (omega (arith, subst (λ b'. 0 < trigraph b') (h.1.1.0.1 at) some))),
+          (λ at. absurd (omega (arith, subst (λ b'. 0 < trigraph language b') (h.1.1.0.1 at) some, trigraph-line_feed language))),
         ),
-        honest_trigraphs r h.1.1.1,
+        honest_trigraphs language r h.1.1.1,
       ))
-      (λ _. (h.0, honest_trigraphs (b ∷ c ∷ r) h.1))
+      (λ _. (h.0, honest_trigraphs language (b ∷ c ∷ r) h.1))
 
   honest_spliced : (cells : List Cell) → AreHonest cells → AreHonest (spliced cells)
   honest_spliced [] h = h
@@ -55,8 +57,8 @@ module _ (source : List ℕ) where
       cond_both ((eqb a.byte 0xef && eqb b.byte 0xbb) && eqb c.byte 0xbf) r (a ∷ b ∷ c ∷ r) AreHonest (λ _. h.1.1.1)
       (λ _. h)
 
-  pub honest_phases : (cells : List Cell) → AreHonest cells → AreHonest (phases cells)
-  honest_phases cells h = honest_spliced _ (honest_trigraphs _ (honest_new_lines cells h))
+  pub honest_phases : (language : Language) (cells : List Cell) → AreHonest cells → AreHonest (phases language cells)
+  honest_phases language cells h = honest_spliced _ (honest_trigraphs language _ (honest_new_lines cells h))
 
   -- each byte for itself
   pub honest_from : (at line : ℕ) (bs : List ℕ) → ((i d : ℕ) → i < length bs

@@ -47,3 +47,4 @@ pub mod BlankedWalks
 pub mod LinesInRows
 pub mod Ranges
 pub mod MemoryFaults
+pub mod Dollars

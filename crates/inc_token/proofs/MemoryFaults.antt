@@ -1,5 +1,5 @@
 -- No text is refused for want of memory: the definitions know none.
-use Rattle.inc_token.specs.declared.kinds.Language.{Language}
+use Rattle.inc_text.specs.declared.languages.Language.{Language}
 use Rattle.std.proofs.Common.{ℕ, zero, suc, ◌-◌, Bool, false, List, [], ◌∷◌, Result, Ok, Err}
 use Rattle.std.specs.Prelude.{◌≢◌, IfErr}
 use Rattle.inc_text.specs.PhaseText.{Cell, bytes_of}
@@ -28,7 +28,7 @@ lines_have language left progress space [] = tt
 lines_have language (suc left) progress space (c ∷ cs) = lines_have language left progress space cs
 lines_have language zero progress space (c ∷ cs) =
     let text : List ℕ = bytes_of (c ∷ cs) in
-    let piece : Piece = piece_at progress text in
+    let piece : Piece = piece_at language progress text in
     piece_has space piece c cs _ (lines_have language (piece_len piece - 1) (progress_after language progress piece text) (is_space piece) cs)
 
 pub token_lines_have : (language : Language) (cells : List Cell) → HasMemory (token_lines language cells)

@@ -1,5 +1,5 @@
 -- A line on which no comment can begin: its tokens are those of its own bytes, whatever is on the lines around it and wherever its bytes come from.
-use Rattle.inc_token.specs.declared.kinds.Language.{Language}
+use Rattle.inc_text.specs.declared.languages.Language.{Language}
 use Rattle.std.proofs.Common.{◌≡◌, ℕ, zero, suc, ◌+◌, ◌-◌, ◌≤◌, ◌==◌, ◌||◌, Bool, true, false, not, cond, List, [], ◌∷◌, ◌++◌, Result, Ok, Err, length, map, take, nat_lt, nat_eq, refl, sym, ap, ◌∙◌, subst, arith}
 use Rattle.std.specs.List.{list_all, prefix_len, starts_with}
 use Rattle.std.proofs.lemmas.Bool.{and_parts, and_left, cond_both, cond-false}
@@ -50,7 +50,7 @@ abbrev pub own_tokens : (language : Language) → ℕ → Progress → Bool → 
 own_tokens language left progress space [] = []
 own_tokens language (suc left) progress space (b ∷ bs) = own_tokens language left progress space bs
 own_tokens language zero progress space (b ∷ bs) =
-    let piece = piece_at progress (b ∷ bs) in
+    let piece = piece_at language progress (b ∷ bs) in
     with_own space piece (b ∷ bs) (own_tokens language (piece_len piece - 1) (progress_after language progress piece (b ∷ bs)) (is_space piece) bs)
 
 ---- the piece at a place of such a line
@@ -77,11 +77,11 @@ part-line bs more all =
     ap (λ n. take n (bs ++ 10 ∷ more)) (len-line bs more all ∙ sym (len-whole bs all))
     ∙ take-append-le _ bs (10 ∷ more) (let e = len-whole bs all in omega (arith, e))
 
-plain_piece : (progress : Progress) (b : ℕ) (bs : List ℕ) → stays_on_line b ≡ true
-    → piece_at progress (b ∷ bs) ≡ cond (is_blank b) (Blank 1) (token_at progress (line_part (b ∷ bs)))
-plain_piece progress b bs stays =
+plain_piece : (language : Language) (progress : Progress) (b : ℕ) (bs : List ℕ) → stays_on_line b ≡ true
+    → piece_at language progress (b ∷ bs) ≡ cond (is_blank b) (Blank 1) (token_at language progress (line_part (b ∷ bs)))
+plain_piece language progress b bs stays =
     let text : List ℕ = b ∷ bs in
-    let token : Piece = token_at progress (line_part text) in
+    let token : Piece = token_at language progress (line_part text) in
     let no_slash : (b == 47) ≡ false = differs stays_on_line 47 b refl stays in
     let no_end : (b == 10) ≡ false = differs stays_on_line 10 b refl stays in
     let star : starts_with nat_eq text (47 ∷ 42 ∷ []) ≡ false = slash_and 42 b bs ∙ and_left (b == 47) _ no_slash in
@@ -92,12 +92,12 @@ plain_piece progress b bs stays =
     ∙ cond-false (b == 10) NewLine token no_end)
 
 -- whatever is on the lines after it
-own_piece : (progress : Progress) (b : ℕ) (bs more : List ℕ) → list_all stays_on_line (b ∷ bs) ≡ true → piece_at progress (b ∷ (bs ++ 10 ∷ more)) ≡ piece_at progress (b ∷ bs)
-own_piece progress b bs more all =
+own_piece : (language : Language) (progress : Progress) (b : ℕ) (bs more : List ℕ) → list_all stays_on_line (b ∷ bs) ≡ true → piece_at language progress (b ∷ (bs ++ 10 ∷ more)) ≡ piece_at language progress (b ∷ bs)
+own_piece language progress b bs more all =
     let h = and_parts (stays_on_line b) (list_all stays_on_line bs) all in
-    plain_piece progress b (bs ++ 10 ∷ more) h.0
-    ∙ ap (λ l. cond (is_blank b) (Blank 1) (token_at progress l)) (part-line (b ∷ bs) more all)
-    ∙ sym (plain_piece progress b bs h.0)
+    plain_piece language progress b (bs ++ 10 ∷ more) h.0
+    ∙ ap (λ l. cond (is_blank b) (Blank 1) (token_at language progress l)) (part-line (b ∷ bs) more all)
+    ∙ sym (plain_piece language progress b bs h.0)
 
 -- it is white space or a token
 abbrev IsOnLine : Piece → Type 0
@@ -106,16 +106,16 @@ IsOnLine (Lexeme kind n) = Unit
 IsOnLine NewLine = ⊥
 IsOnLine Unclosed = ⊥
 
-token_on_line : (progress : Progress) (text : List ℕ) → IsOnLine (token_at progress text)
-token_on_line AtStart text = tt
-token_on_line AfterHash text = tt
-token_on_line Elsewhere text = tt
-token_on_line AfterInclude text = cond_both (nat_lt 0 (longest is_header_name text)) (Lexeme HeaderName (longest is_header_name text)) (longest_token text) IsOnLine (λ _. tt) (λ _. tt)
+token_on_line : (language : Language) (progress : Progress) (text : List ℕ) → IsOnLine (token_at language progress text)
+token_on_line language AtStart text = tt
+token_on_line language AfterHash text = tt
+token_on_line language Elsewhere text = tt
+token_on_line language AfterInclude text = cond_both (nat_lt 0 (longest is_header_name text)) (Lexeme HeaderName (longest is_header_name text)) (longest_token language text) IsOnLine (λ _. tt) (λ _. tt)
 
-on_line : (progress : Progress) (b : ℕ) (bs : List ℕ) → stays_on_line b ≡ true → IsOnLine (piece_at progress (b ∷ bs))
-on_line progress b bs stays =
-    subst IsOnLine (sym (plain_piece progress b bs stays))
-    (cond_both (is_blank b) (Blank 1) (token_at progress (line_part (b ∷ bs))) IsOnLine (λ _. tt) (λ _. token_on_line progress (line_part (b ∷ bs))))
+on_line : (language : Language) (progress : Progress) (b : ℕ) (bs : List ℕ) → stays_on_line b ≡ true → IsOnLine (piece_at language progress (b ∷ bs))
+on_line language progress b bs stays =
+    subst IsOnLine (sym (plain_piece language progress b bs stays))
+    (cond_both (is_blank b) (Blank 1) (token_at language progress (line_part (b ∷ bs))) IsOnLine (λ _. tt) (λ _. token_on_line language progress (line_part (b ∷ bs))))
 
 ---- the tokens
 
@@ -182,15 +182,15 @@ module _ (language : Language) (first last line : ℕ) (rest : List Cell) where
       let text : List ℕ = bytes_of (c ∷ cs) in
       let more : List Cell = cs ++ end ∷ rest in
       let bytes : bytes_of (c ∷ more) ≡ c.byte ∷ (bytes_of cs ++ 10 ∷ bytes_of rest) = ap (λ t. c.byte ∷ t) (map-append (λ (d : Cell). d.byte) cs (end ∷ rest)) in
-      let piece : Piece = piece_at progress text in
-      let same : piece_at progress (bytes_of (c ∷ more)) ≡ piece = ap (piece_at progress) bytes ∙ own_piece progress c.byte (bytes_of cs) (bytes_of rest) all in
+      let piece : Piece = piece_at language progress text in
+      let same : piece_at language progress (bytes_of (c ∷ more)) ≡ piece = ap (piece_at language progress) bytes ∙ own_piece language progress c.byte (bytes_of cs) (bytes_of rest) all in
       let len : length text ≡ length (c ∷ cs) = length-map (c ∷ cs) (λ (d : Cell). d.byte) in
-      let bound = piece_at-within progress text (omega arith) in
+      let bound = piece_at-within language progress text (omega arith) in
       let after : progress_after language progress piece (bytes_of (c ∷ more)) ≡ progress_after language progress piece text =
       ap (progress_after language progress piece) bytes ∙ front progress piece text (10 ∷ bytes_of rest) bound.1 in
       ap (λ (p : Piece). unplaced_lines (with_piece space p c more (lines_from language (piece_len p - 1) (progress_after language progress p (bytes_of (c ∷ more))) (is_space p) more))) same
       ∙ ap (λ (q : Progress). unplaced_lines (with_piece space piece c more (lines_from language (piece_len piece - 1) q (is_space piece) more))) after
-      ∙ step progress space c cs piece (on_line progress c.byte (bytes_of cs) h.0) (omega (arith, bound.1, len)) (λ l p s fits'. own_line l p s cs h.1 fits')
+      ∙ step progress space c cs piece (on_line language progress c.byte (bytes_of cs) h.0) (omega (arith, bound.1, len)) (λ l p s fits'. own_line l p s cs h.1 fits')
     where
       front : (progress : Progress) (piece : Piece) (text more : List ℕ) → piece_len piece ≤ length text → progress_after language progress piece (text ++ more) ≡ progress_after language progress piece text
       front progress (Blank n) text more le = refl

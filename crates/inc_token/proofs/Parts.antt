@@ -3,10 +3,11 @@ use Rattle.std.proofs.Common.{◌≡◌, ℕ, zero, suc, ◌+◌, ◌-◌, ◌<�
 use Rattle.std.proofs.lemmas.Bool.{cond-true, cond-false, cond_both, cases_Bool, and_parts, and_left, and_right, and_cases, false_from_ne_true, ne_eqb}
 use Rattle.std.proofs.lemmas.Bool.Decides.{nat_tests}
 use Rattle.std.proofs.lemmas.List.{drop_more, drop_all}
-use Rattle.inc_token.specs.Spellings.{is_digit, is_hex_digit, is_letter, is_exponent_letter, begins_with_hex, universal_len, nondigit_len, identifier_part, number_part}
+use Rattle.inc_token.specs.Spellings.{is_digit, is_hex_digit, is_letter, is_exponent_letter, begins_with_hex, universal_len, is_dollar, nonletter_len, nondigit_len, identifier_part, number_part}
 use Rattle.inc_token.specs.Scanning.{begins_with_sign}
 use Rattle.inc_token.proofs.FrontPieces.{line_len}
 use Rattle.inc_token.proofs.Rows.{IsPart, differs, cond_kept, line_from}
+use Rattle.inc_text.specs.declared.languages.Language.{Language}
 
 hex_kept : (n k : ℕ) (bs : List ℕ) → n ≤ k → begins_with_hex n (take k bs) ≡ begins_with_hex n bs
 hex_kept zero k bs le = refl
@@ -86,34 +87,47 @@ universal_line (a ∷ b ∷ bs) =
 one_on_line : (f : ℕ → Bool) (b : ℕ) (bs : List ℕ) → f 10 ≡ false → f b ≡ true → 1 ≤ line_len (b ∷ bs)
 one_on_line f b bs fails passes = line_from b 0 bs (differs f 10 b fails passes) (omega arith)
 
-pub nondigit_kept : (text : List ℕ) (k : ℕ) → 0 < k → nondigit_len text ≤ k → nondigit_len (take k text) ≡ nondigit_len text
-nondigit_kept text zero some le = absurd (omega arith)
-nondigit_kept [] (suc k) some le = refl
-nondigit_kept (b ∷ bs) (suc k) some le =
-    cond_kept (is_letter b) 1 (universal_len (b ∷ bs)) (universal_len (b ∷ take k bs)) (suc k) le
+nonletter_kept : (language : Language) (text : List ℕ) (k : ℕ) → 0 < k → nonletter_len language text ≤ k → nonletter_len language (take k text) ≡ nonletter_len language text
+nonletter_kept language text zero some le = absurd (omega arith)
+nonletter_kept language [] (suc k) some le = refl
+nonletter_kept language (b ∷ bs) (suc k) some le =
+    cond_kept (is_dollar language b) 1 (universal_len (b ∷ bs)) (universal_len (b ∷ take k bs)) (suc k) le
     (λ _ le'. universal_kept (b ∷ bs) (suc k) some le')
 
-nondigit_line : (text : List ℕ) → nondigit_len text ≤ line_len text
-nondigit_line [] = omega arith
-nondigit_line (b ∷ bs) =
-    cond_both (is_letter b) 1 (universal_len (b ∷ bs)) (λ n. n ≤ line_len (b ∷ bs))
-    (λ yes. one_on_line is_letter b bs refl yes) (λ _. universal_line (b ∷ bs))
+nonletter_line : (language : Language) (text : List ℕ) → nonletter_len language text ≤ line_len text
+nonletter_line language [] = omega arith
+nonletter_line language (b ∷ bs) =
+    cond_both (is_dollar language b) 1 (universal_len (b ∷ bs)) (λ n. n ≤ line_len (b ∷ bs))
+    (λ yes. one_on_line (is_dollar language) b bs refl yes) (λ _. universal_line (b ∷ bs))
 
-identifier_part-kept : (text : List ℕ) (k : ℕ) → 0 < k → identifier_part text ≤ k → identifier_part (take k text) ≡ identifier_part text
-identifier_part-kept text zero some le = absurd (omega arith)
-identifier_part-kept [] (suc k) some le = refl
-identifier_part-kept (b ∷ bs) (suc k) some le =
-    cond_kept (is_digit b) 1 (nondigit_len (b ∷ bs)) (nondigit_len (b ∷ take k bs)) (suc k) le
-    (λ _ le'. nondigit_kept (b ∷ bs) (suc k) some le')
+pub nondigit_kept : (language : Language) (text : List ℕ) (k : ℕ) → 0 < k → nondigit_len language text ≤ k → nondigit_len language (take k text) ≡ nondigit_len language text
+nondigit_kept language text zero some le = absurd (omega arith)
+nondigit_kept language [] (suc k) some le = refl
+nondigit_kept language (b ∷ bs) (suc k) some le =
+    cond_kept (is_letter b) 1 (nonletter_len language (b ∷ bs)) (nonletter_len language (b ∷ take k bs)) (suc k) le
+    (λ _ le'. nonletter_kept language (b ∷ bs) (suc k) some le')
 
-identifier_part-line : (text : List ℕ) → identifier_part text ≤ line_len text
-identifier_part-line [] = omega arith
-identifier_part-line (b ∷ bs) =
-    cond_both (is_digit b) 1 (nondigit_len (b ∷ bs)) (λ n. n ≤ line_len (b ∷ bs))
-    (λ yes. one_on_line is_digit b bs refl yes) (λ _. nondigit_line (b ∷ bs))
+nondigit_line : (language : Language) (text : List ℕ) → nondigit_len language text ≤ line_len text
+nondigit_line language [] = omega arith
+nondigit_line language (b ∷ bs) =
+    cond_both (is_letter b) 1 (nonletter_len language (b ∷ bs)) (λ n. n ≤ line_len (b ∷ bs))
+    (λ yes. one_on_line is_letter b bs refl yes) (λ _. nonletter_line language (b ∷ bs))
 
-pub identifier_parts : IsPart identifier_part
-identifier_parts = record { on_line = identifier_part-line; kept = identifier_part-kept }
+identifier_part-kept : (language : Language) (text : List ℕ) (k : ℕ) → 0 < k → identifier_part language text ≤ k → identifier_part language (take k text) ≡ identifier_part language text
+identifier_part-kept language text zero some le = absurd (omega arith)
+identifier_part-kept language [] (suc k) some le = refl
+identifier_part-kept language (b ∷ bs) (suc k) some le =
+    cond_kept (is_digit b) 1 (nondigit_len language (b ∷ bs)) (nondigit_len language (b ∷ take k bs)) (suc k) le
+    (λ _ le'. nondigit_kept language (b ∷ bs) (suc k) some le')
+
+identifier_part-line : (language : Language) (text : List ℕ) → identifier_part language text ≤ line_len text
+identifier_part-line language [] = omega arith
+identifier_part-line language (b ∷ bs) =
+    cond_both (is_digit b) 1 (nondigit_len language (b ∷ bs)) (λ n. n ≤ line_len (b ∷ bs))
+    (λ yes. one_on_line is_digit b bs refl yes) (λ _. nondigit_line language (b ∷ bs))
+
+pub identifier_parts : (language : Language) → IsPart (identifier_part language)
+identifier_parts language = record { on_line = identifier_part-line language; kept = identifier_part-kept language }
 
 -- without its last byte a part of one byte or none is the same, also where a sign was cut off
 number_part-cut : (t s : Bool) (x y : ℕ) → cond t 2 (cond s 1 x) ≤ 1 → (x ≤ 1 → y ≡ x) → cond s 1 y ≡ cond t 2 (cond s 1 x)
@@ -121,46 +135,46 @@ number_part-cut true s x y le f = absurd (omega arith)
 number_part-cut false true x y le f = refl
 number_part-cut false false x y le f = f le
 
-number_part-kept : (text : List ℕ) (k : ℕ) → 0 < k → number_part text ≤ k → number_part (take k text) ≡ number_part text
-number_part-kept text zero some le = absurd (omega arith)
-number_part-kept [] (suc k) some le = refl
-number_part-kept (b ∷ []) (suc zero) some le = refl
-number_part-kept (b ∷ []) (suc (suc k)) some le = refl
-number_part-kept (a ∷ b ∷ bs) (suc zero) some le =
-    number_part-cut (is_exponent_letter a && ((b == 43) || (b == 45))) (a == 46) (identifier_part (a ∷ b ∷ bs)) (identifier_part (a ∷ [])) le
-    (λ le'. identifier_part-kept (a ∷ b ∷ bs) 1 some le')
-number_part-kept (a ∷ b ∷ bs) (suc (suc k)) some le =
-    cond_kept (is_exponent_letter a && ((b == 43) || (b == 45))) 2 (cond (a == 46) 1 (identifier_part (a ∷ b ∷ bs)))
-    (cond (a == 46) 1 (identifier_part (a ∷ b ∷ take k bs))) (suc (suc k)) le
+number_part-kept : (language : Language) (text : List ℕ) (k : ℕ) → 0 < k → number_part language text ≤ k → number_part language (take k text) ≡ number_part language text
+number_part-kept language text zero some le = absurd (omega arith)
+number_part-kept language [] (suc k) some le = refl
+number_part-kept language (b ∷ []) (suc zero) some le = refl
+number_part-kept language (b ∷ []) (suc (suc k)) some le = refl
+number_part-kept language (a ∷ b ∷ bs) (suc zero) some le =
+    number_part-cut (is_exponent_letter a && ((b == 43) || (b == 45))) (a == 46) (identifier_part language (a ∷ b ∷ bs)) (identifier_part language (a ∷ [])) le
+    (λ le'. identifier_part-kept language (a ∷ b ∷ bs) 1 some le')
+number_part-kept language (a ∷ b ∷ bs) (suc (suc k)) some le =
+    cond_kept (is_exponent_letter a && ((b == 43) || (b == 45))) 2 (cond (a == 46) 1 (identifier_part language (a ∷ b ∷ bs)))
+    (cond (a == 46) 1 (identifier_part language (a ∷ b ∷ take k bs))) (suc (suc k)) le
     (λ _ le'.
-    cond_kept (a == 46) 1 (identifier_part (a ∷ b ∷ bs)) (identifier_part (a ∷ b ∷ take k bs)) (suc (suc k)) le'
-    (λ _ le''. identifier_part-kept (a ∷ b ∷ bs) (suc (suc k)) some le''))
+    cond_kept (a == 46) 1 (identifier_part language (a ∷ b ∷ bs)) (identifier_part language (a ∷ b ∷ take k bs)) (suc (suc k)) le'
+    (λ _ le''. identifier_part-kept language (a ∷ b ∷ bs) (suc (suc k)) some le''))
 
-number_part-line : (text : List ℕ) → number_part text ≤ line_len text
-number_part-line [] = omega arith
-number_part-line (b ∷ []) =
-    cond_both (b == 46) 1 (identifier_part (b ∷ [])) (λ n. n ≤ line_len (b ∷ []))
-    (λ yes. one_on_line (λ x. x == 46) b [] refl yes) (λ _. identifier_part-line (b ∷ []))
-number_part-line (a ∷ b ∷ bs) =
+number_part-line : (language : Language) (text : List ℕ) → number_part language text ≤ line_len text
+number_part-line language [] = omega arith
+number_part-line language (b ∷ []) =
+    cond_both (b == 46) 1 (identifier_part language (b ∷ [])) (λ n. n ≤ line_len (b ∷ []))
+    (λ yes. one_on_line (λ x. x == 46) b [] refl yes) (λ _. identifier_part-line language (b ∷ []))
+number_part-line language (a ∷ b ∷ bs) =
     let sign = λ (x : ℕ). (x == 43) || (x == 45) in
-    cond_both (is_exponent_letter a && sign b) 2 (cond (a == 46) 1 (identifier_part (a ∷ b ∷ bs))) (λ n. n ≤ line_len (a ∷ b ∷ bs))
+    cond_both (is_exponent_letter a && sign b) 2 (cond (a == 46) 1 (identifier_part language (a ∷ b ∷ bs))) (λ n. n ≤ line_len (a ∷ b ∷ bs))
     (λ yes.
     let parts = and_parts (is_exponent_letter a) (sign b) yes in
     line_from a 1 (b ∷ bs) (differs is_exponent_letter 10 a refl parts.0) (one_on_line sign b bs refl parts.1))
-    (λ _. cond_both (a == 46) 1 (identifier_part (a ∷ b ∷ bs)) (λ n. n ≤ line_len (a ∷ b ∷ bs))
-    (λ yes. one_on_line (λ x. x == 46) a (b ∷ bs) refl yes) (λ _. identifier_part-line (a ∷ b ∷ bs)))
+    (λ _. cond_both (a == 46) 1 (identifier_part language (a ∷ b ∷ bs)) (λ n. n ≤ line_len (a ∷ b ∷ bs))
+    (λ yes. one_on_line (λ x. x == 46) a (b ∷ bs) refl yes) (λ _. identifier_part-line language (a ∷ b ∷ bs)))
 
-pub number_parts : IsPart number_part
-number_parts = record { on_line = number_part-line; kept = number_part-kept }
+pub number_parts : (language : Language) → IsPart (number_part language)
+number_parts language = record { on_line = number_part-line language; kept = number_part-kept language }
 
 -- the part of a number, as the scanner tests for it
-pub number_part-is : (b : ℕ) (bs : List ℕ)
-    → number_part (b ∷ bs) ≡ cond (b == 46) 1 (cond (is_exponent_letter b && begins_with_sign bs) 2 (identifier_part (b ∷ bs)))
-number_part-is b [] =
-    cond_both (b == 46) 1 (identifier_part (b ∷ [])) (λ n. n ≡ cond (b == 46) 1 (cond (is_exponent_letter b && false) 2 (identifier_part (b ∷ []))))
+pub number_part-is : (language : Language) (b : ℕ) (bs : List ℕ)
+    → number_part language (b ∷ bs) ≡ cond (b == 46) 1 (cond (is_exponent_letter b && begins_with_sign bs) 2 (identifier_part language (b ∷ bs)))
+number_part-is language b [] =
+    cond_both (b == 46) 1 (identifier_part language (b ∷ [])) (λ n. n ≡ cond (b == 46) 1 (cond (is_exponent_letter b && false) 2 (identifier_part language (b ∷ []))))
     (λ yes. sym (cond-true (b == 46) 1 _ yes))
     (λ no. sym (cond-false (b == 46) 1 _ no ∙ cond-false (is_exponent_letter b && false) 2 _ (and_right (is_exponent_letter b) false refl)))
-number_part-is a (b ∷ bs) =
+number_part-is language a (b ∷ bs) =
     let exponent = is_exponent_letter a && begins_with_sign (b ∷ bs) in
     ⊎_elim
     (λ (dot : (a == 46) ≡ true).
@@ -194,12 +208,12 @@ hex_no (suc n) text i some lt is =
     ap (begins_with_hex (suc n)) (drop_more text i 0 lt) ∙ ap (λ t. t && begins_with_hex n (drop (i + 1) text)) is
 
 -- no exponent with a sign and no . is at a place
-pub number_part-else : (text : List ℕ) (i : ℕ) → i < length text → (get_or text i 0 ≡ 46 → ⊥)
+pub number_part-else : (language : Language) (text : List ℕ) (i : ℕ) → i < length text → (get_or text i 0 ≡ 46 → ⊥)
     → (is_exponent_letter (get_or text i 0) && begins_with_sign (drop (i + 1) text)) ≡ false
-    → number_part (drop i text) ≡ identifier_part (drop i text)
-number_part-else text i lt dot exponent =
+    → number_part language (drop i text) ≡ identifier_part language (drop i text)
+number_part-else language text i lt dot exponent =
     let b = get_or text i 0 in
     let bs = drop (i + 1) text in
     let head = drop_more text i 0 lt in
-    ap number_part head ∙ number_part-is b bs ∙ cond-false (b == 46) 1 _ (ne_eqb b 46 dot)
-    ∙ cond-false (is_exponent_letter b && begins_with_sign bs) 2 _ exponent ∙ ap identifier_part (sym head)
+    ap (number_part language) head ∙ number_part-is language b bs ∙ cond-false (b == 46) 1 _ (ne_eqb b 46 dot)
+    ∙ cond-false (is_exponent_letter b && begins_with_sign bs) 2 _ exponent ∙ ap (identifier_part language) (sym head)

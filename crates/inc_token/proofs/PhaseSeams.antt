@@ -3,8 +3,9 @@
 use Rattle.std.proofs.Common.{◌≡◌, ◌≢◌, ℕ, ◌<◌, ◌≤◌, ◌&&◌, ◌⊎◌, inl, inr, Bool, true, false, cond, List, [], ◌∷◌, ◌++◌, eqb, ◌||◌, nat_lt, refl, sym, ap, ◌∙◌, subst, arith}
 use Rattle.std.proofs.lemmas.Bool.{cond_both, cond-false, and_left, and_right}
 use Rattle.inc_text.specs.PhaseText.{Cell, joined, with_new_lines, with_trigraphs, spliced, trigraph, is_trigraph}
-use Rattle.inc_text.proofs.PhaseLemmas.{head_of, tail_of}
+use Rattle.inc_text.proofs.PhaseLemmas.{head_of, tail_of, trigraph-blank}
 use Rattle.inc_token.proofs.Rows.{differs}
+use Rattle.inc_text.specs.declared.languages.Language.{Language}
 
 -- the cells stand for the source bytes from n up to m, one after the other
 abbrev pub Row : ℕ → List Cell → ℕ → Type 0
@@ -22,8 +23,8 @@ Away p [] = Unit {0}
 Away p (c ∷ cs) = (c.first ≢ p) × (c.last ≢ p) × Away p cs
 
 -- phases 1 and 2 of cells
-abbrev pub phases : List Cell → List Cell
-phases cells = spliced (with_trigraphs (with_new_lines cells))
+abbrev pub phases : Language → List Cell → List Cell
+phases language cells = spliced (with_trigraphs language (with_new_lines cells))
 
 ---- what the phases keep
 
@@ -35,14 +36,14 @@ away_new_lines p (a ∷ b ∷ r) h =
     (Away p)
     (λ _. (h.0, h.2.1, away_new_lines p r h.2.2)) (λ _. (h.0, h.1, away_new_lines p (b ∷ r) h.2))
 
-away_trigraphs : (p : ℕ) (cells : List Cell) → Away p cells → Away p (with_trigraphs cells)
-away_trigraphs p [] h = h
-away_trigraphs p (a ∷ []) h = h
-away_trigraphs p (a ∷ b ∷ []) h = h
-away_trigraphs p (a ∷ b ∷ c ∷ r) h =
-    cond_both (is_trigraph a.byte b.byte c.byte) (joined (trigraph c.byte) a c ∷ with_trigraphs r)
-    (a ∷ with_trigraphs (b ∷ c ∷ r)) (Away p)
-    (λ _. (h.0, h.2.2.1, away_trigraphs p r h.2.2.2)) (λ _. (h.0, h.1, away_trigraphs p (b ∷ c ∷ r) h.2))
+away_trigraphs : (language : Language) (p : ℕ) (cells : List Cell) → Away p cells → Away p (with_trigraphs language cells)
+away_trigraphs language p [] h = h
+away_trigraphs language p (a ∷ []) h = h
+away_trigraphs language p (a ∷ b ∷ []) h = h
+away_trigraphs language p (a ∷ b ∷ c ∷ r) h =
+    cond_both (is_trigraph language a.byte b.byte c.byte) (joined (trigraph language c.byte) a c ∷ with_trigraphs language r)
+    (a ∷ with_trigraphs language (b ∷ c ∷ r)) (Away p)
+    (λ _. (h.0, h.2.2.1, away_trigraphs language p r h.2.2.2)) (λ _. (h.0, h.1, away_trigraphs language p (b ∷ c ∷ r) h.2))
 
 away_spliced : (p : ℕ) (cells : List Cell) → Away p cells → Away p (spliced cells)
 away_spliced p [] h = h
@@ -60,15 +61,15 @@ row_new_lines n m (a ∷ b ∷ r) h =
     (λ _. (h.0, omega (arith, h.1, h.2.1), row_new_lines b.last m r h.2.2))
     (λ _. (h.0, h.1, row_new_lines a.last m (b ∷ r) h.2))
 
-row_trigraphs : (n m : ℕ) (cells : List Cell) → Row n cells m → Row n (with_trigraphs cells) m
-row_trigraphs n m [] h = h
-row_trigraphs n m (a ∷ []) h = h
-row_trigraphs n m (a ∷ b ∷ []) h = h
-row_trigraphs n m (a ∷ b ∷ c ∷ r) h =
-    cond_both (is_trigraph a.byte b.byte c.byte) (joined (trigraph c.byte) a c ∷ with_trigraphs r)
-    (a ∷ with_trigraphs (b ∷ c ∷ r)) (λ cs. Row n cs m)
-    (λ _. (h.0, omega (arith, h.1, h.2.1, h.2.2.1), row_trigraphs c.last m r h.2.2.2))
-    (λ _. (h.0, h.1, row_trigraphs a.last m (b ∷ c ∷ r) h.2))
+row_trigraphs : (language : Language) (n m : ℕ) (cells : List Cell) → Row n cells m → Row n (with_trigraphs language cells) m
+row_trigraphs language n m [] h = h
+row_trigraphs language n m (a ∷ []) h = h
+row_trigraphs language n m (a ∷ b ∷ []) h = h
+row_trigraphs language n m (a ∷ b ∷ c ∷ r) h =
+    cond_both (is_trigraph language a.byte b.byte c.byte) (joined (trigraph language c.byte) a c ∷ with_trigraphs language r)
+    (a ∷ with_trigraphs language (b ∷ c ∷ r)) (λ cs. Row n cs m)
+    (λ _. (h.0, omega (arith, h.1, h.2.1, h.2.2.1), row_trigraphs language c.last m r h.2.2.2))
+    (λ _. (h.0, h.1, row_trigraphs language a.last m (b ∷ c ∷ r) h.2))
 
 pub rise_lower : (k n m : ℕ) (cells : List Cell) → k ≤ n → Rise n cells m → Rise k cells m
 rise_lower k n m [] le h = omega (arith, le, h)
@@ -86,8 +87,8 @@ rise_spliced n m (a ∷ b ∷ r) h =
     (λ _. rise_lower n b.last m (spliced r) (omega (arith, h.0, h.1, h.2.0, h.2.1)) (rise_spliced b.last m r h.2.2))
     (λ _. (h.0, h.1, rise_spliced a.last m (b ∷ r) h.2))
 
-pub rise_phases : (n m : ℕ) (cells : List Cell) → Row n cells m → Rise n (phases cells) m
-rise_phases n m cells h = rise_spliced n m _ (rise_row n m _ (row_trigraphs n m _ (row_new_lines n m cells h)))
+pub rise_phases : (language : Language) (n m : ℕ) (cells : List Cell) → Row n cells m → Rise n (phases language cells) m
+rise_phases language n m cells h = rise_spliced n m _ (rise_row n m _ (row_trigraphs language n m _ (row_new_lines n m cells h)))
 
 -- cells that begin later are away
 away_later : (p q m : ℕ) (cells : List Cell) → p < q → Row q cells m → Away p cells
@@ -144,47 +145,47 @@ seam_new_lines n p m (a ∷ b ∷ x) y h k =
     (parts_cons n a.last p a _ (with_new_lines (b ∷ x)) (with_new_lines y) h.0 h.1 (omega arith)
     (seam_new_lines a.last p m (b ∷ x) y h.2 k))
 
-seam_trigraphs : (n p m : ℕ) (x y : List Cell) → Row n x p → Row p y m
-    → Parts n p (with_trigraphs (x ++ y)) (with_trigraphs x) (with_trigraphs y)
-seam_trigraphs n p m [] y h k = inl refl
-seam_trigraphs n p m (a ∷ []) [] h k = inl refl
-seam_trigraphs n p m (a ∷ []) (b ∷ []) h k = inl refl
-seam_trigraphs n p m (a ∷ []) (b ∷ c ∷ y) h k =
-    cond_both (is_trigraph a.byte b.byte c.byte) (joined (trigraph c.byte) a c ∷ with_trigraphs y)
-    (a ∷ with_trigraphs (b ∷ c ∷ y))
-    (λ whole. Parts n p whole (a ∷ []) (with_trigraphs (b ∷ c ∷ y)))
+seam_trigraphs : (language : Language) (n p m : ℕ) (x y : List Cell) → Row n x p → Row p y m
+    → Parts n p (with_trigraphs language (x ++ y)) (with_trigraphs language x) (with_trigraphs language y)
+seam_trigraphs language n p m [] y h k = inl refl
+seam_trigraphs language n p m (a ∷ []) [] h k = inl refl
+seam_trigraphs language n p m (a ∷ []) (b ∷ []) h k = inl refl
+seam_trigraphs language n p m (a ∷ []) (b ∷ c ∷ y) h k =
+    cond_both (is_trigraph language a.byte b.byte c.byte) (joined (trigraph language c.byte) a c ∷ with_trigraphs language y)
+    (a ∷ with_trigraphs language (b ∷ c ∷ y))
+    (λ whole. Parts n p whole (a ∷ []) (with_trigraphs language (b ∷ c ∷ y)))
     (λ _. inr (
       omega (arith, h.1, h.2),
       (
         omega (arith, h.0, h.1, h.2),
         omega (arith, k.1, k.2.1),
-        away_trigraphs p y
+        away_trigraphs language p y
             (away_later p c.last m y (omega (arith, k.1, k.2.1)) k.2.2),
       ),
     ))
     (λ _. inl refl)
-seam_trigraphs n p m (a ∷ b ∷ []) [] h k = inl refl
-seam_trigraphs n p m (a ∷ b ∷ []) (c ∷ y) h k =
-    cond_both (is_trigraph a.byte b.byte c.byte) (joined (trigraph c.byte) a c ∷ with_trigraphs y)
-    (a ∷ with_trigraphs (b ∷ c ∷ y))
-    (λ whole. Parts n p whole (a ∷ b ∷ []) (with_trigraphs (c ∷ y)))
+seam_trigraphs language n p m (a ∷ b ∷ []) [] h k = inl refl
+seam_trigraphs language n p m (a ∷ b ∷ []) (c ∷ y) h k =
+    cond_both (is_trigraph language a.byte b.byte c.byte) (joined (trigraph language c.byte) a c ∷ with_trigraphs language y)
+    (a ∷ with_trigraphs language (b ∷ c ∷ y))
+    (λ whole. Parts n p whole (a ∷ b ∷ []) (with_trigraphs language (c ∷ y)))
     (λ _. inr (
       omega (arith, h.1, h.2.1, h.2.2),
       (
         omega (arith, h.0, h.1, h.2.1, h.2.2),
         omega (arith, k.1),
-        away_trigraphs p y
+        away_trigraphs language p y
             (away_later p c.last m y k.1 k.2),
       ),
     ))
-    (λ _. parts_cons n a.last p a _ (b ∷ []) (with_trigraphs (c ∷ y)) h.0 h.1 (omega arith)
-    (seam_trigraphs a.last p m (b ∷ []) (c ∷ y) h.2 k))
-seam_trigraphs n p m (a ∷ b ∷ c ∷ x) y h k =
-    parts_by n p (is_trigraph a.byte b.byte c.byte) _ _ _ _ (with_trigraphs y)
-    (parts_cons n c.last p (joined (trigraph c.byte) a c) _ (with_trigraphs x) (with_trigraphs y) h.0
-    (omega (arith, h.1, h.2.1, h.2.2.1)) (omega arith) (seam_trigraphs c.last p m x y h.2.2.2 k))
-    (parts_cons n a.last p a _ (with_trigraphs (b ∷ c ∷ x)) (with_trigraphs y) h.0 h.1 (omega arith)
-    (seam_trigraphs a.last p m (b ∷ c ∷ x) y h.2 k))
+    (λ _. parts_cons n a.last p a _ (b ∷ []) (with_trigraphs language (c ∷ y)) h.0 h.1 (omega arith)
+    (seam_trigraphs language a.last p m (b ∷ []) (c ∷ y) h.2 k))
+seam_trigraphs language n p m (a ∷ b ∷ c ∷ x) y h k =
+    parts_by n p (is_trigraph language a.byte b.byte c.byte) _ _ _ _ (with_trigraphs language y)
+    (parts_cons n c.last p (joined (trigraph language c.byte) a c) _ (with_trigraphs language x) (with_trigraphs language y) h.0
+    (omega (arith, h.1, h.2.1, h.2.2.1)) (omega arith) (seam_trigraphs language c.last p m x y h.2.2.2 k))
+    (parts_cons n a.last p a _ (with_trigraphs language (b ∷ c ∷ x)) (with_trigraphs language y) h.0 h.1 (omega arith)
+    (seam_trigraphs language a.last p m (b ∷ c ∷ x) y h.2 k))
 
 seam_spliced : (n p m : ℕ) (x y : List Cell) → Row n x p → Row p y m
     → Parts n p (spliced (x ++ y)) (spliced x) (spliced y)
@@ -208,19 +209,19 @@ spliced_seam n p m t u v h k (inl is) = subst (λ w. Parts n p (spliced w) (spli
     (seam_spliced n p m u v h k)
 spliced_seam n p m t u v h k (inr away) = inr (away.0, away_spliced p t away.1)
 
-trigraphs_seam : (n p m : ℕ) (t u v : List Cell) → Row n u p → Row p v m → Parts n p t u v
-    → Parts n p (with_trigraphs t) (with_trigraphs u) (with_trigraphs v)
-trigraphs_seam n p m t u v h k (inl is) =
-    subst (λ w. Parts n p (with_trigraphs w) (with_trigraphs u) (with_trigraphs v)) (sym is)
-    (seam_trigraphs n p m u v h k)
-trigraphs_seam n p m t u v h k (inr away) = inr (away.0, away_trigraphs p t away.1)
+trigraphs_seam : (language : Language) (n p m : ℕ) (t u v : List Cell) → Row n u p → Row p v m → Parts n p t u v
+    → Parts n p (with_trigraphs language t) (with_trigraphs language u) (with_trigraphs language v)
+trigraphs_seam language n p m t u v h k (inl is) =
+    subst (λ w. Parts n p (with_trigraphs language w) (with_trigraphs language u) (with_trigraphs language v)) (sym is)
+    (seam_trigraphs language n p m u v h k)
+trigraphs_seam language n p m t u v h k (inr away) = inr (away.0, away_trigraphs language p t away.1)
 
-pub seam : (n p m : ℕ) (x y : List Cell) → Row n x p → Row p y m → Parts n p (phases (x ++ y)) (phases x) (phases y)
-seam n p m x y h k =
+pub seam : (language : Language) (n p m : ℕ) (x y : List Cell) → Row n x p → Row p y m → Parts n p (phases language (x ++ y)) (phases language x) (phases language y)
+seam language n p m x y h k =
     let h1 = row_new_lines n p x h in
     let k1 = row_new_lines p m y k in
-    spliced_seam n p m _ _ _ (row_trigraphs n p _ h1) (row_trigraphs p m _ k1)
-    (trigraphs_seam n p m _ _ _ h1 k1 (seam_new_lines n p m x y h k))
+    spliced_seam n p m _ _ _ (row_trigraphs language n p _ h1) (row_trigraphs language p m _ k1)
+    (trigraphs_seam language n p m _ _ _ h1 k1 (seam_new_lines n p m x y h k))
 
 ---- a space
 
@@ -229,11 +230,11 @@ new_lines_pass : (a : Cell) (r : List Cell) → (eqb a.byte 13 && eqb (head_of r
 new_lines_pass a [] h = refl
 new_lines_pass a (b ∷ r) h = cond-false _ _ _ h
 
-trigraphs_pass : (a : Cell) (r : List Cell) → is_trigraph a.byte (head_of r) (head_of (tail_of r)) ≡ false
-    → with_trigraphs (a ∷ r) ≡ a ∷ with_trigraphs r
-trigraphs_pass a [] h = refl
-trigraphs_pass a (b ∷ []) h = refl
-trigraphs_pass a (b ∷ c ∷ r) h = cond-false _ _ _ h
+trigraphs_pass : (language : Language) (a : Cell) (r : List Cell) → is_trigraph language a.byte (head_of r) (head_of (tail_of r)) ≡ false
+    → with_trigraphs language (a ∷ r) ≡ a ∷ with_trigraphs language r
+trigraphs_pass language a [] h = refl
+trigraphs_pass language a (b ∷ []) h = refl
+trigraphs_pass language a (b ∷ c ∷ r) h = cond-false _ _ _ h
 
 spliced_pass : (a : Cell) (r : List Cell) → (eqb a.byte 92 && eqb (head_of r) 10) ≡ false
     → spliced (a ∷ r) ≡ a ∷ spliced r
@@ -255,11 +256,11 @@ module _ (c : Cell) (gone : is_gone c.byte ≡ true) where
   no_backslash = differs is_gone 92 c.byte refl gone
 
   -- at the front
-  pub gone_first : (w : List Cell) → phases (c ∷ w) ≡ c ∷ phases w
-  gone_first w =
-      ap (λ cs. spliced (with_trigraphs cs)) (new_lines_pass c w (and_left _ _ no_return))
-      ∙ ap spliced (trigraphs_pass c (with_new_lines w) (and_left _ _ (and_left _ _ no_question)))
-      ∙ spliced_pass c (with_trigraphs (with_new_lines w)) (and_left _ _ no_backslash)
+  pub gone_first : (language : Language) (w : List Cell) → phases language (c ∷ w) ≡ c ∷ phases language w
+  gone_first language w =
+      ap (λ cs. spliced (with_trigraphs language cs)) (new_lines_pass c w (and_left _ _ no_return))
+      ∙ ap spliced (trigraphs_pass language c (with_new_lines w) (and_left _ _ (and_left _ _ no_question)))
+      ∙ spliced_pass c (with_trigraphs language (with_new_lines w)) (and_left _ _ no_backslash)
 
 seam_by : (t : Bool) (u v x z w : List Cell) → u ≡ x ++ w → v ≡ z ++ w → cond t u v ≡ cond t x z ++ w
 seam_by true u v x z w is other = is
@@ -276,21 +277,22 @@ module _ (s : Cell) (space : s.byte ≡ 32) where
       seam_by (eqb a.byte 13 && eqb b.byte 10) _ _ _ _ (with_new_lines (s ∷ w))
       (ap (λ cs. joined 10 a b ∷ cs) (new_lines_at x w)) (ap (λ cs. a ∷ cs) (new_lines_at (b ∷ x) w))
 
-  trigraphs_at : (x w : List Cell) → with_trigraphs (x ++ s ∷ w) ≡ with_trigraphs x ++ with_trigraphs (s ∷ w)
-  trigraphs_at [] w = refl
-  trigraphs_at (a ∷ []) [] = refl
-  trigraphs_at (a ∷ []) (b ∷ w) =
-      cond-false (is_trigraph a.byte s.byte b.byte) _ _
+  trigraphs_at : (language : Language) (x w : List Cell) → with_trigraphs language (x ++ s ∷ w) ≡ with_trigraphs language x ++ with_trigraphs language (s ∷ w)
+  trigraphs_at language [] w = refl
+  trigraphs_at language (a ∷ []) [] = refl
+  trigraphs_at language (a ∷ []) (b ∷ w) =
+      cond-false (is_trigraph language a.byte s.byte b.byte) _ _
       (and_left (eqb a.byte 63 && eqb s.byte 63) _ (no_byte 63 (eqb a.byte 63) refl))
-  trigraphs_at (a ∷ b ∷ []) w =
-      cond-false (is_trigraph a.byte b.byte s.byte) _ _
-      (ap (λ k. (eqb a.byte 63 && eqb b.byte 63) && nat_lt 0 (trigraph k)) space
+  trigraphs_at language (a ∷ b ∷ []) w =
+      cond-false (is_trigraph language a.byte b.byte s.byte) _ _
+      (ap (λ k. (eqb a.byte 63 && eqb b.byte 63) && nat_lt 0 (trigraph language k)) space
+      ∙ ap (λ k. (eqb a.byte 63 && eqb b.byte 63) && nat_lt 0 k) (trigraph-blank language)
       ∙ and_right (eqb a.byte 63 && eqb b.byte 63) _ refl)
-      ∙ ap (λ cs. a ∷ cs) (trigraphs_at (b ∷ []) w)
-  trigraphs_at (a ∷ b ∷ c ∷ x) w =
-      seam_by (is_trigraph a.byte b.byte c.byte) _ _ _ _ (with_trigraphs (s ∷ w))
-      (ap (λ cs. joined (trigraph c.byte) a c ∷ cs) (trigraphs_at x w))
-      (ap (λ cs. a ∷ cs) (trigraphs_at (b ∷ c ∷ x) w))
+      ∙ ap (λ cs. a ∷ cs) (trigraphs_at language (b ∷ []) w)
+  trigraphs_at language (a ∷ b ∷ c ∷ x) w =
+      seam_by (is_trigraph language a.byte b.byte c.byte) _ _ _ _ (with_trigraphs language (s ∷ w))
+      (ap (λ cs. joined (trigraph language c.byte) a c ∷ cs) (trigraphs_at language x w))
+      (ap (λ cs. a ∷ cs) (trigraphs_at language (b ∷ c ∷ x) w))
 
   spliced_at : (x w : List Cell) → spliced (x ++ s ∷ w) ≡ spliced x ++ spliced (s ∷ w)
   spliced_at [] w = refl
@@ -300,16 +302,16 @@ module _ (s : Cell) (space : s.byte ≡ 32) where
       (ap (λ cs. a ∷ cs) (spliced_at (b ∷ x) w))
 
   -- behind others
-  pub space_between : (x w : List Cell) → phases (x ++ s ∷ w) ≡ phases x ++ s ∷ phases w
-  space_between x w =
+  pub space_between : (language : Language) (x w : List Cell) → phases language (x ++ s ∷ w) ≡ phases language x ++ s ∷ phases language w
+  space_between language x w =
       let gone : is_gone s.byte ≡ true = ap is_gone space in
       let one : (cs : List Cell) → with_new_lines (s ∷ cs) ≡ s ∷ with_new_lines cs =
       λ cs. new_lines_pass s cs (and_left _ _ (no_return s gone)) in
-      let two : (cs : List Cell) → with_trigraphs (s ∷ cs) ≡ s ∷ with_trigraphs cs =
-      λ cs. trigraphs_pass s cs (and_left _ _ (and_left _ _ (no_question s gone))) in
-      ap (λ cs. spliced (with_trigraphs cs)) (new_lines_at x w ∙ ap (λ cs. with_new_lines x ++ cs) (one w))
-      ∙ ap spliced (trigraphs_at (with_new_lines x) (with_new_lines w)
-      ∙ ap (λ cs. with_trigraphs (with_new_lines x) ++ cs) (two (with_new_lines w)))
-      ∙ spliced_at (with_trigraphs (with_new_lines x)) (with_trigraphs (with_new_lines w))
-      ∙ ap (λ cs. phases x ++ cs) (spliced_pass s (with_trigraphs (with_new_lines w))
+      let two : (cs : List Cell) → with_trigraphs language (s ∷ cs) ≡ s ∷ with_trigraphs language cs =
+      λ cs. trigraphs_pass language s cs (and_left _ _ (and_left _ _ (no_question s gone))) in
+      ap (λ cs. spliced (with_trigraphs language cs)) (new_lines_at x w ∙ ap (λ cs. with_new_lines x ++ cs) (one w))
+      ∙ ap spliced (trigraphs_at language (with_new_lines x) (with_new_lines w)
+      ∙ ap (λ cs. with_trigraphs language (with_new_lines x) ++ cs) (two (with_new_lines w)))
+      ∙ spliced_at (with_trigraphs language (with_new_lines x)) (with_trigraphs language (with_new_lines w))
+      ∙ ap (λ cs. phases language x ++ cs) (spliced_pass s (with_trigraphs language (with_new_lines w))
       (and_left _ _ (no_backslash s gone)))

@@ -14,6 +14,7 @@ use Rattle.inc_token.specs.declared.pieces.Piece.{Piece}
 use Rattle.inc_token.specs.declared.pieces.Piece.TheVariants.{Blank, NewLine, Lexeme, Unclosed}
 use Rattle.inc_token.specs.declared.pieces.Progress.{Progress}
 use Rattle.inc_token.specs.declared.pieces.Progress.TheVariants.{AtStart, AfterHash, AfterInclude, Elsewhere}
+use Rattle.inc_text.specs.declared.languages.Language.{Language}
 
 -- a byte or more, and at most n
 abbrev pub Takes : ℕ → ℕ → Type 0
@@ -43,10 +44,10 @@ some_class false false false false true x h = refl
 some_class false false false false false true h = refl
 some_class false false false false false false h = h refl
 
-pub is_token-byte : (b : ℕ) → is_blank b ≡ false → (b == 10) ≡ false → is_token (b ∷ []) ≡ true
-is_token-byte b p q =
-    some_class (is_identifier (b ∷ [])) (is_number (b ∷ [])) (is_char (b ∷ [])) (is_str (b ∷ [])) (is_punct (b ∷ [])) (is_other (b ∷ []))
-    (not_any (is_blank b) (b == 10) (is_one_above (b ∷ [])) p q)
+pub is_token-byte : (language : Language) (b : ℕ) → is_blank b ≡ false → (b == 10) ≡ false → is_token language (b ∷ []) ≡ true
+is_token-byte language b p q =
+    some_class (is_identifier language (b ∷ [])) (is_number language (b ∷ [])) (is_char (b ∷ [])) (is_str (b ∷ [])) (is_punct (b ∷ [])) (is_other language (b ∷ []))
+    (not_any (is_blank b) (b == 10) (is_one_above language (b ∷ [])) p q)
 
 -- the longest prefix that passes has a byte where the first byte alone passes
 longest_within-le : (test : List ℕ → Bool) (text : List ℕ) (n : ℕ) → longest_within test text n ≤ n
@@ -69,20 +70,20 @@ pub longest-pos : (test : List ℕ → Bool) (b : ℕ) (bs : List ℕ) → test 
 longest-pos test b bs is = longest_within-pos test (b ∷ bs) (length bs) is
 
 -- a token
-longest_token-within : (b : ℕ) (bs : List ℕ) → is_token (b ∷ []) ≡ true → IsWithin (length (b ∷ bs)) (longest_token (b ∷ bs))
-longest_token-within b bs is = (longest-pos is_token b bs is, longest-le is_token (b ∷ bs))
+longest_token-within : (language : Language) (b : ℕ) (bs : List ℕ) → is_token language (b ∷ []) ≡ true → IsWithin (length (b ∷ bs)) (longest_token language (b ∷ bs))
+longest_token-within language b bs is = (longest-pos (is_token language) b bs is, longest-le (is_token language) (b ∷ bs))
 
 pub pos_from_test : (n : ℕ) → nat_lt 0 n ≡ true → 1 ≤ n
 pos_from_test zero h = cc
 pos_from_test (suc n) h = omega arith
 
-pub token_at-within : (progress : Progress) (b : ℕ) (bs : List ℕ) → is_token (b ∷ []) ≡ true → IsWithin (length (b ∷ bs)) (token_at progress (b ∷ bs))
-token_at-within AtStart b bs is = longest_token-within b bs is
-token_at-within AfterHash b bs is = longest_token-within b bs is
-token_at-within Elsewhere b bs is = longest_token-within b bs is
-token_at-within AfterInclude b bs is =
+pub token_at-within : (language : Language) (progress : Progress) (b : ℕ) (bs : List ℕ) → is_token language (b ∷ []) ≡ true → IsWithin (length (b ∷ bs)) (token_at language progress (b ∷ bs))
+token_at-within language AtStart b bs is = longest_token-within language b bs is
+token_at-within language AfterHash b bs is = longest_token-within language b bs is
+token_at-within language Elsewhere b bs is = longest_token-within language b bs is
+token_at-within language AfterInclude b bs is =
     let n : ℕ = longest is_header_name (b ∷ bs) in
-    if_by (IsWithin (length (b ∷ bs))) (nat_lt 0 n) (Lexeme HeaderName n) (longest_token (b ∷ bs)) (λ h. (pos_from_test n h, longest-le is_header_name (b ∷ bs))) (λ _. longest_token-within b bs is)
+    if_by (IsWithin (length (b ∷ bs))) (nat_lt 0 n) (Lexeme HeaderName n) (longest_token language (b ∷ bs)) (λ h. (pos_from_test n h, longest-le is_header_name (b ∷ bs))) (λ _. longest_token-within language b bs is)
 
 -- up to the next LF
 first_stays : (t : Bool) (n b : ℕ) (bs : List ℕ) → t ≡ false → take (cond (not t) (1 + n) 0) (b ∷ bs) ≡ b ∷ take n bs
@@ -95,13 +96,13 @@ line_part-first b bs is = (take (prefix_len (λ x. not (x == 10)) bs) bs, first_
 line_part-le : (text : List ℕ) → length (line_part text) ≤ length text
 line_part-le text = omega (arith, length-prefix_len (λ b. not (b == 10)) text, prefix_len-le-length (λ b. not (b == 10)) text)
 
-line_token-within : (progress : Progress) (b : ℕ) (bs : List ℕ) → is_blank b ≡ false → (b == 10) ≡ false → IsWithin (length (b ∷ bs)) (token_at progress (line_part (b ∷ bs)))
-line_token-within progress b bs p q =
+line_token-within : (language : Language) (progress : Progress) (b : ℕ) (bs : List ℕ) → is_blank b ≡ false → (b == 10) ≡ false → IsWithin (length (b ∷ bs)) (token_at language progress (line_part (b ∷ bs)))
+line_token-within language progress b bs p q =
     let first = line_part-first b bs q in
-    let inner = token_at-within progress b first.0 (is_token-byte b p q) in
+    let inner = token_at-within language progress b first.0 (is_token-byte language b p q) in
     let shorter = line_part-le (b ∷ bs) in
     let is : b ∷ first.0 ≡ line_part (b ∷ bs) = sym first.1 in
-    let fits : IsWithin (length (line_part (b ∷ bs))) (token_at progress (line_part (b ∷ bs))) = subst (λ t. IsWithin (length t) (token_at progress t)) is inner in
+    let fits : IsWithin (length (line_part (b ∷ bs))) (token_at language progress (line_part (b ∷ bs))) = subst (λ t. IsWithin (length t) (token_at language progress t)) is inner in
     (fits.0, omega (arith, fits.1, shorter))
 
 -- comments
@@ -154,11 +155,11 @@ line_comment-within b bs h =
     (counts (b == 10) (prefix_len (λ x. not (x == 10)) bs) is, prefix_len-le-length (λ x. not (x == 10)) (b ∷ bs))
 
 -- what is at a place
-pub piece_at-within : (progress : Progress) (text : List ℕ) → 0 < length text → IsWithin (length text) (piece_at progress text)
-piece_at-within progress [] h = absurd (omega arith)
-piece_at-within progress (b ∷ bs) h =
+pub piece_at-within : (language : Language) (progress : Progress) (text : List ℕ) → 0 < length text → IsWithin (length text) (piece_at language progress text)
+piece_at-within language progress [] h = absurd (omega arith)
+piece_at-within language progress (b ∷ bs) h =
     let n : ℕ = length (b ∷ bs) in
-    let token : Piece = token_at progress (line_part (b ∷ bs)) in
+    let token : Piece = token_at language progress (line_part (b ∷ bs)) in
     let block : Piece = block_comment (b ∷ bs) in
     let line : Piece = line_comment (b ∷ bs) in
     if_by (IsWithin n) (is_blank b) (Blank 1) _
@@ -167,4 +168,4 @@ piece_at-within progress (b ∷ bs) h =
     (block_comment-within b bs)
     (λ _. if_by (IsWithin n) (starts_with nat_eq (b ∷ bs) (codes "//")) line _
     (line_comment-within b bs)
-    (λ _. if_by (IsWithin n) (b == 10) NewLine token (λ _. (omega arith, omega arith)) (λ q. line_token-within progress b bs p q))))
+    (λ _. if_by (IsWithin n) (b == 10) NewLine token (λ _. (omega arith, omega arith)) (λ q. line_token-within language progress b bs p q))))

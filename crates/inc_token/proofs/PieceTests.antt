@@ -16,17 +16,18 @@ use Rattle.inc_token.proofs.Rows.{differs}
 use Rattle.inc_token.proofs.Longest.{longest_on_line}
 use Rattle.inc_token.proofs.Closed.{flip, longest_header_name}
 use Rattle.inc_token.proofs.FirstBytes.{first_token-is}
+use Rattle.inc_text.specs.declared.languages.Language.{Language}
 
-token_by-is : (progress : Progress) (b : ℕ) (bs : List ℕ) → is_blank b ≡ false → (b == 10) ≡ false
-    → token_at progress (line_part (b ∷ bs)) ≡ token_by progress (b ∷ bs)
-token_by-is AtStart b bs blank line = first_token-is b bs blank line
-token_by-is AfterHash b bs blank line = first_token-is b bs blank line
-token_by-is Elsewhere b bs blank line = first_token-is b bs blank line
-token_by-is AfterInclude b bs blank line =
+token_by-is : (language : Language) (progress : Progress) (b : ℕ) (bs : List ℕ) → is_blank b ≡ false → (b == 10) ≡ false
+    → token_at language progress (line_part (b ∷ bs)) ≡ token_by language progress (b ∷ bs)
+token_by-is language AtStart b bs blank line = first_token-is language b bs blank line
+token_by-is language AfterHash b bs blank line = first_token-is language b bs blank line
+token_by-is language Elsewhere b bs blank line = first_token-is language b bs blank line
+token_by-is language AfterInclude b bs blank line =
     let text = b ∷ bs in
     let n = header_name_len text in
-    ap (λ k. cond (nat_lt 0 k) (Lexeme HeaderName k) (longest_token (line_part text))) (longest_on_line is_header_name text n (longest_header_name text))
-    ∙ ap (λ p. cond (nat_lt 0 n) (Lexeme HeaderName n) p) (first_token-is b bs blank line)
+    ap (λ k. cond (nat_lt 0 k) (Lexeme HeaderName k) (longest_token language (line_part text))) (longest_on_line is_header_name text n (longest_header_name text))
+    ∙ ap (λ p. cond (nat_lt 0 n) (Lexeme HeaderName n) p) (first_token-is language b bs blank line)
 
 and_true : (x : Bool) → (x && true) ≡ x
 and_true true = refl
@@ -44,22 +45,22 @@ line_first true star slash line w x y z t u no_star no_slash same = refl
 line_first false star slash true w x y z t u no_star no_slash same = rw (no_star refl, no_slash refl) refl
 line_first false star slash false w x y z t u no_star no_slash same = rw (same refl refl) refl
 
-piece_by-is : (progress : Progress) (b : ℕ) (bs : List ℕ) → piece_at progress (b ∷ bs) ≡ piece_by progress (b ∷ bs)
-piece_by-is progress b bs =
+piece_by-is : (language : Language) (progress : Progress) (b : ℕ) (bs : List ℕ) → piece_at language progress (b ∷ bs) ≡ piece_by language progress (b ∷ bs)
+piece_by-is language progress b bs =
     let text = b ∷ bs in
-    let token = token_at progress (line_part text) in
+    let token = token_at language progress (line_part text) in
     let star = (b == 47) && begins_with_byte 42 bs in
     let slash = (b == 47) && begins_with_byte 47 bs in
     let lf = λ (x : ℕ). x == 10 in
     ap (λ s. cond (is_blank b) (Blank 1) (cond s (block_comment text) (cond (starts_with nat_eq text (47 ∷ 47 ∷ [])) (line_comment text) (cond (b == 10) NewLine token))))
     (slash_and 42 b bs)
     ∙ ap (λ s. cond (is_blank b) (Blank 1) (cond star (block_comment text) (cond s (line_comment text) (cond (b == 10) NewLine token)))) (slash_and 47 b bs)
-    ∙ line_first (is_blank b) star slash (b == 10) (Blank 1) (block_comment text) (line_comment text) NewLine token (token_by progress text)
+    ∙ line_first (is_blank b) star slash (b == 10) (Blank 1) (block_comment text) (line_comment text) NewLine token (token_by language progress text)
     (λ line. and_left (b == 47) (begins_with_byte 42 bs) (differs lf 47 b refl line))
     (λ line. and_left (b == 47) (begins_with_byte 47 bs) (differs lf 47 b refl line))
-    (λ blank line. token_by-is progress b bs blank line)
+    (λ blank line. token_by-is language progress b bs blank line)
 
-pub piece_at-is : (progress : Progress) (text : List ℕ) (at : ℕ) → at < length text → piece_by progress (drop at text) ≡ piece_at progress (drop at text)
-piece_at-is progress text at lt =
+pub piece_at-is : (language : Language) (progress : Progress) (text : List ℕ) (at : ℕ) → at < length text → piece_by language progress (drop at text) ≡ piece_at language progress (drop at text)
+piece_at-is language progress text at lt =
     let head = drop_more text at 0 lt in
-    subst (λ xs. piece_by progress xs ≡ piece_at progress xs) (sym head) (sym (piece_by-is progress (get_or text at 0) (drop (at + 1) text)))
+    subst (λ xs. piece_by language progress xs ≡ piece_at language progress xs) (sym head) (sym (piece_by-is language progress (get_or text at 0) (drop (at + 1) text)))

@@ -1,5 +1,5 @@
 -- The answer for a text before and after what is at a place is taken.
-use Rattle.inc_token.specs.declared.kinds.Language.{Language}
+use Rattle.inc_text.specs.declared.languages.Language.{Language}
 use Rattle.std.proofs.Common.{◌≡◌, ℕ, ◌+◌, ◌-◌, ◌<◌, ◌≤◌, Bool, true, false, List, [], ◌∷◌, ◌++◌, Some, Result, Err, length, take, drop, get_or, sym, ap, ◌∙◌, arith, slice_get, slice_range, option_map}
 use Rattle.std.specs.List.{prefix_len}
 use Rattle.std.proofs.lemmas.List.{drop-drop, get_or-drop, length-drop}
@@ -39,11 +39,11 @@ bare_behind bytes at behind is within =
 
 -- a comment, or one byte of white space
 pub blank_at : (language : Language) (bytes : List ℕ) (cells : List Cell) (at n : ℕ) (progress : Progress) (space : Bool) → bytes ≡ bytes_of cells → at < length cells
-    → Blank n ≡ piece_at progress (drop at bytes) → 1 ≤ n
+    → Blank n ≡ piece_at language progress (drop at bytes) → 1 ≤ n
     → lines_from language 0 progress true (drop (at + n) cells) ≡ lines_from language 0 progress space (drop at cells)
 blank_at language bytes cells at n progress space text within is pos =
     let cell = cell_at cells at within in
-    let piece : piece_at progress (drop at (bytes_of cells)) ≡ Blank n = ap (λ t. piece_at progress (drop at t)) (sym text) ∙ sym is in
+    let piece : piece_at language progress (drop at (bytes_of cells)) ≡ Blank n = ap (λ t. piece_at language progress (drop at t)) (sym text) ∙ sym is in
     sym (at_place language cells at progress space (Blank n) cell.0 cell.1 cell.2 piece pos ∙ with_piece-blank space n cell.0 cell.1 (lines_from language 0 progress true (drop (at + n) cells)))
 
 -- where the cell at a place comes from
@@ -54,12 +54,12 @@ line_at cells at c first last line is place =
 
 -- an unterminated comment
 pub open_at : (language : Language) (bytes : List ℕ) (cells : List Cell) (at : ℕ) (progress : Progress) (space : Bool) (first last line : ℕ)
-    → bytes ≡ bytes_of cells → at < length cells → Unclosed ≡ piece_at progress (drop at bytes)
+    → bytes ≡ bytes_of cells → at < length cells → Unclosed ≡ piece_at language progress (drop at bytes)
     → option_map range_and_line (slice_get cells at) ≡ Some (first, last, line)
     → lines_from language 0 progress space (drop at cells) ≡ Err (OpenComment line)
 open_at language bytes cells at progress space first last line text within is place =
     let cell = cell_at cells at within in
-    let piece : piece_at progress (drop at (bytes_of cells)) ≡ Unclosed = ap (λ t. piece_at progress (drop at t)) (sym text) ∙ sym is in
+    let piece : piece_at language progress (drop at (bytes_of cells)) ≡ Unclosed = ap (λ t. piece_at language progress (drop at t)) (sym text) ∙ sym is in
     let from = line_at cells at cell.0 first last line cell.3 place in
     let on : cell.0.line ≡ line = ap (λ (x : ℕ × ℕ × ℕ). x.2) from in
     at_place language cells at progress space Unclosed cell.0 cell.1 cell.2 piece (omega arith)
@@ -67,13 +67,13 @@ open_at language bytes cells at progress space first last line text within is pl
 
 -- the LF that ends a line
 pub new_line_at : (language : Language) (bytes : List ℕ) (cells : List Cell) (at : ℕ) (progress : Progress) (space : Bool) (done : List TokenLine) (begun : List Tok) (first last line : ℕ)
-    → bytes ≡ bytes_of cells → at < length cells → piece_at progress (drop at bytes) ≡ NewLine
+    → bytes ≡ bytes_of cells → at < length cells → piece_at language progress (drop at bytes) ≡ NewLine
     → option_map range_and_line (slice_get cells at) ≡ Some (first, last, line)
     → answer_with (done ++ record { tokens = begun; last_line = line } ∷ []) [] (lines_from language 0 AtStart false (drop (at + 1) cells))
     ≡ answer_with done begun (lines_from language 0 progress space (drop at cells))
 new_line_at language bytes cells at progress space done begun first last line text within is place =
     let cell = cell_at cells at within in
-    let piece : piece_at progress (drop at (bytes_of cells)) ≡ NewLine = ap (λ t. piece_at progress (drop at t)) (sym text) ∙ is in
+    let piece : piece_at language progress (drop at (bytes_of cells)) ≡ NewLine = ap (λ t. piece_at language progress (drop at t)) (sym text) ∙ is in
     let from = line_at cells at cell.0 first last line cell.3 place in
     let on : line ≡ cell.0.line = sym (ap (λ (x : ℕ × ℕ × ℕ). x.2) from) in
     let rest : Result (List TokenLine) LexFault = lines_from language 0 AtStart false (drop (at + 1) cells) in
@@ -93,7 +93,7 @@ last_at cells at n c cs first last line here pos fits place =
 
 pub token_at : (language : Language) (bytes : List ℕ) (cells : List Cell) (at n : ℕ) (kind : Kind) (progress : Progress) (space : Bool) (done : List TokenLine) (begun : List Tok) (t : Tok)
     (first last line first' last' line' : ℕ) (spelling : List ℕ)
-    → bytes ≡ bytes_of cells → at < length cells → piece_at progress (drop at bytes) ≡ Lexeme kind n → 1 ≤ n → at + n ≤ length cells
+    → bytes ≡ bytes_of cells → at < length cells → piece_at language progress (drop at bytes) ≡ Lexeme kind n → 1 ≤ n → at + n ≤ length cells
     → spelling ≡ slice_range bytes at (at + n)
     → option_map range_and_line (slice_get cells at) ≡ Some (first, last, line)
     → option_map range_and_line (slice_get cells (at + n - 1)) ≡ Some (first', last', line')
@@ -105,7 +105,7 @@ token_at language bytes cells at n kind progress space done begun t first last l
     let c : Cell = cell.0 in
     let cs : List Cell = cell.1 in
     let left : List ℕ = drop at (bytes_of cells) in
-    let piece : piece_at progress left ≡ Lexeme kind n = ap (λ b. piece_at progress (drop at b)) (sym text) ∙ is in
+    let piece : piece_at language progress left ≡ Lexeme kind n = ap (λ b. piece_at language progress (drop at b)) (sym text) ∙ is in
     let from = line_at cells at c first last line cell.3 place in
     let first_is : first ≡ c.first = sym (ap (λ (x : ℕ × ℕ × ℕ). x.0) from) in
     let line_is : line ≡ c.line = sym (ap (λ (x : ℕ × ℕ × ℕ). x.2) from) in
@@ -129,10 +129,10 @@ token_at language bytes cells at n kind progress space done begun t first last l
     ∙ ap (λ b. answer_with done begun (with_piece space (Lexeme kind n) c cs (rest b))) (sym same))
 
 -- what is at a place lies within the text
-pub piece_fits : (bytes : List ℕ) (at : ℕ) (progress : Progress) (piece : Piece) → at < length bytes → piece ≡ piece_at progress (drop at bytes)
+pub piece_fits : (language : Language) (bytes : List ℕ) (at : ℕ) (progress : Progress) (piece : Piece) → at < length bytes → piece ≡ piece_at language progress (drop at bytes)
     → (1 ≤ piece_len piece) × (at + piece_len piece ≤ length bytes)
-piece_fits bytes at progress piece within is =
+piece_fits language bytes at progress piece within is =
     let rest = length-drop at bytes in
-    let fits = piece_at-within progress (drop at bytes) (omega arith) in
-    let len : piece_len piece ≡ piece_len (piece_at progress (drop at bytes)) = ap piece_len is in
+    let fits = piece_at-within language progress (drop at bytes) (omega arith) in
+    let len : piece_len piece ≡ piece_len (piece_at language progress (drop at bytes)) = ap piece_len is in
     (omega (arith, fits.0, len), omega (arith, fits.1, len, rest))

@@ -14,6 +14,7 @@ use Rattle.inc_token.specs.declared.pieces.Progress.{Progress}
 use Rattle.inc_token.specs.declared.pieces.Progress.TheVariants.{AtStart, AfterHash, AfterInclude, Elsewhere}
 use Rattle.inc_token.proofs.PieceBounds.{is_token-byte, line_part-first, token_at-within}
 use Rattle.inc_token.proofs.Longest.{length-line_part}
+use Rattle.inc_text.specs.declared.languages.Language.{Language}
 
 abbrev pub has_lf : List ℕ → Bool
 has_lf bytes = list_any (λ b. b == 10) bytes
@@ -27,13 +28,13 @@ abbrev pub IsToken : Piece → Type 0
 IsToken (Lexeme kind n) = Unit {0}
 IsToken _ = ⊥
 
-token_is : (progress : Progress) (text : List ℕ) → IsToken (token_at progress text)
-token_is AtStart text = tt
-token_is AfterHash text = tt
-token_is Elsewhere text = tt
-token_is AfterInclude text =
+token_is : (language : Language) (progress : Progress) (text : List ℕ) → IsToken (token_at language progress text)
+token_is language AtStart text = tt
+token_is language AfterHash text = tt
+token_is language Elsewhere text = tt
+token_is language AfterInclude text =
     cond_both (nat_lt 0 (longest is_header_name text)) (Lexeme HeaderName (longest is_header_name text))
-    (longest_token text) IsToken (λ _. tt) (λ _. tt)
+    (longest_token language text) IsToken (λ _. tt) (λ _. tt)
 
 other_token : (a b c d : Bool) (w x y z t u p : Piece) → IsToken t → cond a w (cond b x (cond c y (cond d z t))) ≡ p
     → (IsToken p → ⊥)
@@ -45,15 +46,15 @@ other_token false false false true w x y z t u p token is other = is
 other_token false false false false w x y z t u p token is other = absurd (other (subst IsToken is token))
 
 -- what is no token is so after any tokens of its line
-pub any_progress : (progress later : Progress) (b : ℕ) (bs : List ℕ) (p : Piece) → piece_at progress (b ∷ bs) ≡ p
+pub any_progress : (language : Language) (progress later : Progress) (b : ℕ) (bs : List ℕ) (p : Piece) → piece_at language progress (b ∷ bs) ≡ p
     → (IsToken p → ⊥)
-    → piece_at later (b ∷ bs) ≡ p
-any_progress progress later b bs p is other =
+    → piece_at language later (b ∷ bs) ≡ p
+any_progress language progress later b bs p is other =
     let text : List ℕ = b ∷ bs in
     other_token (is_blank b) (starts_with nat_eq text (codes "/*")) (starts_with nat_eq text (codes "//")) (b == 10)
-    (Blank 1) (block_comment text) (line_comment text) NewLine (token_at progress (line_part text))
-    (token_at later (line_part text)) p
-    (token_is progress (line_part text)) is other
+    (Blank 1) (block_comment text) (line_comment text) NewLine (token_at language progress (line_part text))
+    (token_at language later (line_part text)) p
+    (token_is language progress (line_part text)) is other
 
 ---- comments
 
@@ -165,28 +166,28 @@ block_either b [] old new p closed le is = let k = block_size (b ∷ old) p is c
 block_either b (c ∷ front) old new p closed le is = block_front b c front old new p is closed (omega (arith, le))
 
 -- the piece lies in a front that holds an LF
-pub piece_same : (progress : Progress) (b : ℕ) (front old new : List ℕ) (p : Piece) → has_lf (b ∷ front) ≡ true
-    → piece_at progress (b ∷ (front ++ old)) ≡ p → piece_len p ≤ length (b ∷ front) → p ≢ Unclosed
-    → piece_at progress (b ∷ (front ++ new)) ≡ p
-piece_same progress b front old new p lf is le closed =
+pub piece_same : (language : Language) (progress : Progress) (b : ℕ) (front old new : List ℕ) (p : Piece) → has_lf (b ∷ front) ≡ true
+    → piece_at language progress (b ∷ (front ++ old)) ≡ p → piece_len p ≤ length (b ∷ front) → p ≢ Unclosed
+    → piece_at language progress (b ∷ (front ++ new)) ≡ p
+piece_same language progress b front old new p lf is le closed =
     let text : List ℕ = b ∷ (front ++ old) in
     let later : List ℕ = b ∷ (front ++ new) in
     let star : Bool = starts_with nat_eq text (codes "/*") in
     let slash : Bool = starts_with nat_eq text (codes "//") in
-    let token : Piece = token_at progress (line_part text) in
+    let token : Piece = token_at language progress (line_part text) in
     let block : Piece = block_comment later in
     ap (λ t. cond (is_blank b) (Blank 1) (cond t block
     (cond (starts_with nat_eq later (codes "//")) (line_comment later)
-    (cond (b == 10) NewLine (token_at progress (line_part later))))))
+    (cond (b == 10) NewLine (token_at language progress (line_part later))))))
     (sym (starts_front 42 b front old new lf))
     ∙ ap (λ t. cond (is_blank b) (Blank 1) (cond star block
-    (cond t (line_comment later) (cond (b == 10) NewLine (token_at progress (line_part later))))))
+    (cond t (line_comment later) (cond (b == 10) NewLine (token_at language progress (line_part later))))))
     (sym (starts_front 47 b front old new lf))
     ∙ ap (λ n. cond (is_blank b) (Blank 1) (cond star block
-    (cond slash (Blank n) (cond (b == 10) NewLine (token_at progress (line_part later))))))
+    (cond slash (Blank n) (cond (b == 10) NewLine (token_at language progress (line_part later))))))
     (sym (line_front (b ∷ front) old new lf))
     ∙ ap (λ l. cond (is_blank b) (Blank 1) (cond star block
-    (cond slash (line_comment text) (cond (b == 10) NewLine (token_at progress l)))))
+    (cond slash (line_comment text) (cond (b == 10) NewLine (token_at language progress l)))))
     (sym (take_front (b ∷ front) old new lf))
     ∙ same_by (is_blank b) star slash (b == 10) (Blank 1) (block_comment text)
     (line_comment text) NewLine token block p is
@@ -221,19 +222,19 @@ gap_by false false false true b' c' d' x y t x' y' z' n token is star line = cc
 gap_by false false false false b' c' d' x y t x' y' z' n token is star line = absurd (subst IsToken is token)
 
 -- white space or a comment that a piece of its line follows
-pub gap_same : (progress : Progress) (b : ℕ) (front old new : List ℕ) → goes_on old ≡ true
-    → piece_at progress (b ∷ (front ++ old)) ≡ Blank (length (b ∷ front))
-    → piece_at progress (b ∷ (front ++ new)) ≡ Blank (length (b ∷ front))
-gap_same progress b front old new on is =
+pub gap_same : (language : Language) (progress : Progress) (b : ℕ) (front old new : List ℕ) → goes_on old ≡ true
+    → piece_at language progress (b ∷ (front ++ old)) ≡ Blank (length (b ∷ front))
+    → piece_at language progress (b ∷ (front ++ new)) ≡ Blank (length (b ∷ front))
+gap_same language progress b front old new on is =
     let text : List ℕ = b ∷ (front ++ old) in
     let later : List ℕ = b ∷ (front ++ new) in
     let size : ℕ = length (b ∷ front) in
     let line : line_comment text ≡ Blank size → ⊥ = λ e. ends_there (b ∷ front) old on (ap piece_len e) in
     gap_by (is_blank b) (starts_with nat_eq text (codes "/*")) (starts_with nat_eq text (codes "//")) (b == 10)
     (starts_with nat_eq later (codes "/*")) (starts_with nat_eq later (codes "//")) (b == 10)
-    (block_comment text) (line_comment text) (token_at progress (line_part text)) (block_comment later)
+    (block_comment text) (line_comment text) (token_at language progress (line_part text)) (block_comment later)
     (line_comment later)
-    (cond (b == 10) NewLine (token_at progress (line_part later))) size (token_is progress (line_part text)) is
+    (cond (b == 10) NewLine (token_at language progress (line_part later))) size (token_is language progress (line_part text)) is
     (star_same b front old new) line
   where
     closed : (n : ℕ) → Blank n ≢ Unclosed
@@ -252,33 +253,33 @@ gap_same progress b front old new on is =
 
 ---- the bytes of a token
 
-token_by : (a b c d : Bool) (x : Option ℕ) (m : ℕ) (t p : Piece) → IsToken p
+token_by : (language : Language) (a b c d : Bool) (x : Option ℕ) (m : ℕ) (t p : Piece) → IsToken p
     → cond a (Blank 1) (cond b (comment_piece x) (cond c (Blank m) (cond d NewLine t))) ≡ p
     → (a ≡ false) × (d ≡ false) × (t ≡ p)
-token_by true b c d x m t p token is = absurd (subst IsToken (sym is) token)
-token_by false true c d None m t p token is = absurd (subst IsToken (sym is) token)
-token_by false true c d (Some n) m t p token is = absurd (subst IsToken (sym is) token)
-token_by false false true d x m t p token is = absurd (subst IsToken (sym is) token)
-token_by false false false true x m t p token is = absurd (subst IsToken (sym is) token)
-token_by false false false false x m t p token is = (refl, refl, is)
+token_by language true b c d x m t p token is = absurd (subst IsToken (sym is) token)
+token_by language false true c d None m t p token is = absurd (subst IsToken (sym is) token)
+token_by language false true c d (Some n) m t p token is = absurd (subst IsToken (sym is) token)
+token_by language false false true d x m t p token is = absurd (subst IsToken (sym is) token)
+token_by language false false false true x m t p token is = absurd (subst IsToken (sym is) token)
+token_by language false false false false x m t p token is = (refl, refl, is)
 
 -- neither the first nor the last is LF
-pub token_on_line : (progress : Progress) (b : ℕ) (bs : List ℕ) (kind : Kind) (n : ℕ)
-    → piece_at progress (b ∷ bs) ≡ Lexeme kind n
+pub token_on_line : (language : Language) (progress : Progress) (b : ℕ) (bs : List ℕ) (kind : Kind) (n : ℕ)
+    → piece_at language progress (b ∷ bs) ≡ Lexeme kind n
     → (on_line b ≡ true) × ((d : ℕ) → on_line (get_or (b ∷ bs) (n - 1) d) ≡ true)
-token_on_line progress b bs kind n is =
+token_on_line language progress b bs kind n is =
     let text : List ℕ = b ∷ bs in
-    let parts = token_by (is_blank b) (starts_with nat_eq text (codes "/*")) (starts_with nat_eq text (codes "//"))
+    let parts = token_by language (is_blank b) (starts_with nat_eq text (codes "/*")) (starts_with nat_eq text (codes "//"))
     (b == 10)
-    (comment_rest (drop 2 text)) (prefix_len on_line text) (token_at progress (line_part text))
+    (comment_rest (drop 2 text)) (prefix_len on_line text) (token_at language progress (line_part text))
     (Lexeme kind n) tt is in
     let first = line_part-first b bs parts.1 in
-    let inner = token_at-within progress b first.0 (is_token-byte b parts.0 parts.1) in
+    let inner = token_at-within language progress b first.0 (is_token-byte language b parts.0 parts.1) in
     let line : b ∷ first.0 ≡ line_part text = sym first.1 in
-    let fits : (1 ≤ piece_len (token_at progress (line_part text))) ×
-    (piece_len (token_at progress (line_part text)) ≤ length (line_part text)) =
-    subst (λ t. (1 ≤ piece_len (token_at progress t)) × (piece_len (token_at progress t) ≤ length t)) line inner in
-    let size : piece_len (token_at progress (line_part text)) ≡ n = ap piece_len parts.2 in
+    let fits : (1 ≤ piece_len (token_at language progress (line_part text))) ×
+    (piece_len (token_at language progress (line_part text)) ≤ length (line_part text)) =
+    subst (λ t. (1 ≤ piece_len (token_at language progress t)) × (piece_len (token_at language progress t) ≤ length t)) line inner in
+    let size : piece_len (token_at language progress (line_part text)) ≡ n = ap piece_len parts.2 in
     let part = length-line_part text in
     (ap not parts.1, λ d. prefix_len_passes on_line text (n - 1) d (omega (arith, fits.0, fits.1, size, part)))
 
@@ -292,18 +293,18 @@ newline_by false false false true x m t token is = refl
 newline_by false false false false x m t token is = absurd (subst IsToken is token)
 
 -- the end of a line is an LF
-pub new_line_byte : (progress : Progress) (b : ℕ) (bs : List ℕ) → piece_at progress (b ∷ bs) ≡ NewLine → b ≡ 10
-new_line_byte progress b bs is =
+pub new_line_byte : (language : Language) (progress : Progress) (b : ℕ) (bs : List ℕ) → piece_at language progress (b ∷ bs) ≡ NewLine → b ≡ 10
+new_line_byte language progress b bs is =
     let text : List ℕ = b ∷ bs in
     eqb-true b 10 (newline_by (is_blank b) (starts_with nat_eq text (codes "/*"))
     (starts_with nat_eq text (codes "//")) (b == 10)
-    (comment_rest (drop 2 text)) (prefix_len on_line text) (token_at progress (line_part text))
-    (token_is progress (line_part text)) is)
+    (comment_rest (drop 2 text)) (prefix_len on_line text) (token_at language progress (line_part text))
+    (token_is language progress (line_part text)) is)
 
 -- white space and comments begin with no LF
-pub gap_byte : (progress : Progress) (b n : ℕ) (bs : List ℕ) → piece_at progress (b ∷ bs) ≡ Blank n → on_line b ≡ true
-gap_byte progress b n bs is = by (b == 10) refl where
+pub gap_byte : (language : Language) (progress : Progress) (b n : ℕ) (bs : List ℕ) → piece_at language progress (b ∷ bs) ≡ Blank n → on_line b ≡ true
+gap_byte language progress b n bs is = by (b == 10) refl where
   by : (t : Bool) → (b == 10) ≡ t → not t ≡ true
   by false at = refl
-  by true at = let e : NewLine ≡ Blank n = subst (λ x. piece_at progress (x ∷ bs) ≡ Blank n)
+  by true at = let e : NewLine ≡ Blank n = subst (λ x. piece_at language progress (x ∷ bs) ≡ Blank n)
       (eqb-true b 10 at) is in cc

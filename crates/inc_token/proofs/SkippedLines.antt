@@ -1,5 +1,5 @@
 -- Skipping what is left of a line: where it ends, and the lines after it.
-use Rattle.inc_token.specs.declared.kinds.Language.{Language}
+use Rattle.inc_text.specs.declared.languages.Language.{Language}
 use Rattle.std.proofs.Common.{◌≡◌, ℕ, zero, suc, ◌+◌, ◌-◌, ◌<◌, ◌≤◌, ◌==◌, Bool, true, false, List, [], ◌∷◌, Option, None, Some, Result, Ok, Err, length, drop, refl, sym, ap, ◌∙◌, subst, arith, length-drop, slice_get, option_map}
 use Rattle.std.proofs.lemmas.Bool.{cond_both}
 use Rattle.std.proofs.lemmas.List.{drop-drop, drop_all}
@@ -93,8 +93,8 @@ skipped language b (suc left) space [] = refl
 skipped language b (suc left) space (c ∷ cs) = skipped language b left space cs ∙ ahead_further language b (line_rest left (bytes_of cs)) c cs
 skipped language b zero space (c ∷ cs) =
     let text : List ℕ = bytes_of (c ∷ cs) in
-    let piece : Piece = piece_at Elsewhere text in
-    piece_skipped language b space piece c cs (piece_at-within Elsewhere text (omega arith)).0 (piece_agrees c.byte (bytes_of cs)) (λ left space'. skipped language b left space' cs)
+    let piece : Piece = piece_at language Elsewhere text in
+    piece_skipped language b space piece c cs (piece_at-within language Elsewhere text (omega arith)).0 (piece_agrees language c.byte (bytes_of cs)) (λ left space'. skipped language b left space' cs)
 
 -- the same at a place
 

@@ -10,7 +10,7 @@ use Rattle.inc_token.specs.declared.pieces.Piece.{Piece}
 use Rattle.inc_token.specs.declared.pieces.Piece.TheVariants.{Blank, NewLine, Lexeme, Unclosed}
 use Rattle.inc_token.specs.declared.pieces.skipping.Skipped.TheVariants.{ToLineEnd, ToOpenComment}
 use Rattle.inc_token.specs.declared.pieces.Progress.TheVariants.{Elsewhere}
-use Rattle.inc_token.specs.Spellings.{is_blank, is_digit, is_letter, is_hex_digit, is_exponent_letter, begins_with_hex, universal_len, identifier_part, number_part, begins_number, punctuators, is_punct}
+use Rattle.inc_token.specs.Spellings.{is_blank, is_digit, is_letter, is_hex_digit, is_exponent_letter, begins_with_hex, begins_nondigit, is_dollar, universal_len, nonletter_len, identifier_part, number_part, begins_number, punctuators, is_punct}
 use Rattle.inc_token.specs.TokenLines.{comment_rest, block_comment, line_comment, piece_at}
 use Rattle.inc_token.specs.Scanning.{row_len, begins_with_sign, closed_at, is_wide, quoted_len, wide_str_len, punctuator_len, lexeme_or_other, wide_token, begins_with_byte}
 use Rattle.inc_token.proofs.FrontPieces.{first_token, piece_by}
@@ -21,6 +21,7 @@ use Rattle.inc_token.proofs.Punctuators.{longest_punctuator}
 use Rattle.inc_token.proofs.OneClass.{none_of}
 use Rattle.inc_token.proofs.PieceTests.{piece_at-is}
 use Rattle.inc_token.proofs.Skipping.{Plain, plain_over, line_rest-byte, line_goes_on, line_rest-part}
+use Rattle.inc_text.specs.declared.languages.Language.{Language}
 
 -- a test that no stop passes
 pub no_stop : (f : ℕ → Bool) (b : ℕ) → f 10 ≡ false → f 34 ≡ false → f 39 ≡ false → f 47 ≡ false → f b ≡ true → is_stop b ≡ false
@@ -55,28 +56,34 @@ universal_plain (a ∷ b ∷ bs) =
     cond_both short 6 (cond long 10 0) (λ n. Plain n (a ∷ b ∷ bs)) (λ is. named_plain 117 a b 4 bs refl is)
     (λ _. cond_both long 10 0 (λ n. Plain n (a ∷ b ∷ bs)) (λ is. named_plain 85 a b 8 bs refl is) (λ _. tt))
 
-identifier_plain : (text : List ℕ) → Plain (identifier_part text) text
-identifier_plain [] = tt
-identifier_plain (b ∷ bs) =
+nonletter_plain : (language : Language) (text : List ℕ) → Plain (nonletter_len language text) text
+nonletter_plain language [] = tt
+nonletter_plain language (b ∷ bs) =
+    cond_both (is_dollar language b) 1 (universal_len (b ∷ bs)) (λ n. Plain n (b ∷ bs)) (λ is. (no_stop (is_dollar language) b refl refl refl refl is, tt))
+    (λ _. universal_plain (b ∷ bs))
+
+identifier_plain : (language : Language) (text : List ℕ) → Plain (identifier_part language text) text
+identifier_plain language [] = tt
+identifier_plain language (b ∷ bs) =
     let P : ℕ → Type 0 = λ n. Plain n (b ∷ bs) in
-    cond_both (is_digit b) 1 (cond (is_letter b) 1 (universal_len (b ∷ bs))) P (λ is. (no_stop is_digit b refl refl refl refl is, tt))
-    (λ _. cond_both (is_letter b) 1 (universal_len (b ∷ bs)) P (λ is. (no_stop is_letter b refl refl refl refl is, tt)) (λ _. universal_plain (b ∷ bs)))
+    cond_both (is_digit b) 1 (cond (is_letter b) 1 (nonletter_len language (b ∷ bs))) P (λ is. (no_stop is_digit b refl refl refl refl is, tt))
+    (λ _. cond_both (is_letter b) 1 (nonletter_len language (b ∷ bs)) P (λ is. (no_stop is_letter b refl refl refl refl is, tt)) (λ _. nonletter_plain language (b ∷ bs)))
 
 sign_plain : (b : ℕ) (bs : List ℕ) → is_exponent_letter b ≡ true → begins_with_sign bs ≡ true → Plain 2 (b ∷ bs)
 sign_plain b [] exponent sign = (no_stop is_exponent_letter b refl refl refl refl exponent, tt)
 sign_plain b (c ∷ cs) exponent sign =
     (no_stop is_exponent_letter b refl refl refl refl exponent, (no_stop (λ x. (x == 43) || (x == 45)) c refl refl refl refl sign, tt))
 
-number_plain : (text : List ℕ) → Plain (number_part text) text
-number_plain [] = tt
-number_plain (b ∷ bs) =
+number_plain : (language : Language) (text : List ℕ) → Plain (number_part language text) text
+number_plain language [] = tt
+number_plain language (b ∷ bs) =
     let P : ℕ → Type 0 = λ n. Plain n (b ∷ bs) in
     let signed = is_exponent_letter b && begins_with_sign bs in
-    subst P (sym (number_part-is b bs))
-    (cond_both (b == 46) 1 (cond signed 2 (identifier_part (b ∷ bs))) P (λ is. (no_stop (λ x. x == 46) b refl refl refl refl is, tt))
-    (λ _. cond_both signed 2 (identifier_part (b ∷ bs)) P
+    subst P (sym (number_part-is language b bs))
+    (cond_both (b == 46) 1 (cond signed 2 (identifier_part language (b ∷ bs))) P (λ is. (no_stop (λ x. x == 46) b refl refl refl refl is, tt))
+    (λ _. cond_both signed 2 (identifier_part language (b ∷ bs)) P
     (λ is. let parts = and_parts (is_exponent_letter b) (begins_with_sign bs) is in sign_plain b bs parts.0 parts.1)
-    (λ _. identifier_plain (b ∷ bs))))
+    (λ _. identifier_plain language (b ∷ bs))))
 
 module _ (part : List ℕ → ℕ) (plain : (text : List ℕ) → Plain (part text) text) where
   part_before : (p b : ℕ) (bs : List ℕ) → 0 < p → Plain p (b ∷ bs) → (is_stop b ≡ false) × Plain (p - 1) bs
@@ -224,16 +231,16 @@ lexeme_agrees b bs kind n some none =
     cond_both (nat_lt 0 n) (Lexeme kind n) (Lexeme Other 1) (Agrees b bs) (λ is. some (ltb-true 0 n is))
     (λ is. none (let le = ltb-false 0 n is in omega arith))
 
-wide_agrees : (b : ℕ) (bs : List ℕ) → is_wide b ≡ true → Agrees b bs (wide_token (quoted_len 39 1 bs) (wide_str_len b bs) (row_len identifier_part 0 (b ∷ bs)))
-wide_agrees b bs wide =
+wide_agrees : (language : Language) (b : ℕ) (bs : List ℕ) → is_wide b ≡ true → Agrees b bs (wide_token (quoted_len 39 1 bs) (wide_str_len b bs) (row_len (identifier_part language) 0 (b ∷ bs)))
+wide_agrees language b bs wide =
     let plain = no_stop is_wide b refl refl refl refl wide in
     let char = quoted_len 39 1 bs in
     let str = wide_str_len b bs in
-    let word = row_len identifier_part 0 (b ∷ bs) in
+    let word = row_len (identifier_part language) 0 (b ∷ bs) in
     cond_both (nat_lt 0 char) (Lexeme Char char) (cond (nat_lt 0 str) (Lexeme Str str) (Lexeme Identifier word)) (Agrees b bs)
     (λ is. prefixed_over 39 b bs refl plain (ltb-true 0 char is))
     (λ _. cond_both (nat_lt 0 str) (Lexeme Str str) (Lexeme Identifier word) (Agrees b bs) (λ is. wide_str_over b bs plain (ltb-true 0 str is))
-    (λ _. row_over identifier_part identifier_plain (b ∷ bs)))
+    (λ _. row_over (identifier_part language) (identifier_plain language) (b ∷ bs)))
 
 quote_agrees : (quote b : ℕ) (bs : List ℕ) (kind : Kind) → is_quote quote ≡ true → (b == quote) ≡ true → Agrees b bs (lexeme_or_other kind (closed_at quote false 1 bs))
 quote_agrees quote b bs kind is same =
@@ -253,22 +260,22 @@ punctuator_over (suc n) b bs some is one =
     ap (λ k. is_punct (take k (b ∷ bs))) is ∙ (longest_punctuator (b ∷ bs)).passes (omega arith) in
     one ∙ ap (further 1) (plain_over n bs (without_stops n bs (none_of has_stop_after (take (suc n) (b ∷ bs)) punctuators refl passes)))
 
-first_agrees : (b : ℕ) (bs : List ℕ) → (b == 10) ≡ false → ((b == 47) && begins_with_byte 42 bs) ≡ false → ((b == 47) && begins_with_byte 47 bs) ≡ false
-    → Agrees b bs (first_token (b ∷ bs))
-first_agrees b bs line star slash =
-    let word = row_len identifier_part 0 (b ∷ bs) in
+first_agrees : (language : Language) (b : ℕ) (bs : List ℕ) → (b == 10) ≡ false → ((b == 47) && begins_with_byte 42 bs) ≡ false → ((b == 47) && begins_with_byte 47 bs) ≡ false
+    → Agrees b bs (first_token language (b ∷ bs))
+first_agrees language b bs line star slash =
+    let word = row_len (identifier_part language) 0 (b ∷ bs) in
     let punct = punctuator_len (b ∷ bs) in
     let symbol = lexeme_or_other Punct punct in
     let single = cond (b == 39) (lexeme_or_other Char (closed_at 39 false 1 bs)) symbol in
     let double = cond (b == 34) (lexeme_or_other Str (closed_at 34 false 1 bs)) single in
-    let other = cond (is_letter b || (b == 92)) (lexeme_or_other Identifier word) double in
+    let other = cond (is_letter b || begins_nondigit language b) (lexeme_or_other Identifier word) double in
     let wide = wide_token (quoted_len 39 1 bs) (wide_str_len b bs) word in
-    cond_both (begins_number (b ∷ bs)) (Lexeme Number (row_len number_part 0 (b ∷ bs))) (cond (is_wide b) wide other) (Agrees b bs)
-    (λ _. row_over number_part number_plain (b ∷ bs))
-    (λ _. cond_both (is_wide b) wide other (Agrees b bs) (λ is. wide_agrees b bs is)
-    (λ _. cond_both (is_letter b || (b == 92)) (lexeme_or_other Identifier word) double (Agrees b bs)
-    (λ is. lexeme_agrees b bs Identifier word (λ _. row_over identifier_part identifier_plain (b ∷ bs))
-    (λ _. line_rest-byte b bs (no_stop (λ x. is_letter x || (x == 92)) b refl refl refl refl is)))
+    cond_both (begins_number (b ∷ bs)) (Lexeme Number (row_len (number_part language) 0 (b ∷ bs))) (cond (is_wide b) wide other) (Agrees b bs)
+    (λ _. row_over (number_part language) (number_plain language) (b ∷ bs))
+    (λ _. cond_both (is_wide b) wide other (Agrees b bs) (λ is. wide_agrees language b bs is)
+    (λ _. cond_both (is_letter b || begins_nondigit language b) (lexeme_or_other Identifier word) double (Agrees b bs)
+    (λ is. lexeme_agrees b bs Identifier word (λ _. row_over (identifier_part language) (identifier_plain language) (b ∷ bs))
+    (λ _. line_rest-byte b bs (no_stop (λ x. is_letter x || begins_nondigit language x) b refl refl refl refl is)))
     (λ _. cond_both (b == 34) (lexeme_or_other Str (closed_at 34 false 1 bs)) single (Agrees b bs) (λ is. quote_agrees 34 b bs Str refl is)
     (λ not_double. cond_both (b == 39) (lexeme_or_other Char (closed_at 39 false 1 bs)) symbol (Agrees b bs) (λ is. quote_agrees 39 b bs Char refl is)
     (λ not_single.
@@ -293,12 +300,12 @@ line_agrees b bs line is =
 slash_no_quote : (b : ℕ) → (b == 47) ≡ true → is_quote b ≡ false
 slash_no_quote b is = ap is_quote (eqb-true b 47 is)
 
-piece_by-agrees : (b : ℕ) (bs : List ℕ) → Agrees b bs (piece_by Elsewhere (b ∷ bs))
-piece_by-agrees b bs =
+piece_by-agrees : (language : Language) (b : ℕ) (bs : List ℕ) → Agrees b bs (piece_by language Elsewhere (b ∷ bs))
+piece_by-agrees language b bs =
     let text = b ∷ bs in
     let star = (b == 47) && begins_with_byte 42 bs in
     let slash = (b == 47) && begins_with_byte 47 bs in
-    let last = cond slash (line_comment text) (first_token text) in
+    let last = cond slash (line_comment text) (first_token language text) in
     let late = cond star (block_comment text) last in
     cond_both (is_blank b) (Blank 1) (cond (b == 10) NewLine late) (Agrees b bs)
     (λ is. line_rest-byte b bs (no_stop is_blank b refl refl refl refl is))
@@ -309,14 +316,14 @@ piece_by-agrees b bs =
     block_agrees b bs (comment_rest (drop 2 text)) line
     (cond-false (is_quote b) (byte_or (closed_at b false 1 bs)) (comment_or_byte b bs) quote
     ∙ cond-true star (comment_len (block_comment text)) (cond slash (comment_len (line_comment text)) 1) is))
-    (λ no_star. cond_both slash (line_comment text) (first_token text) (Agrees b bs)
+    (λ no_star. cond_both slash (line_comment text) (first_token language text) (Agrees b bs)
     (λ is.
     let quote : is_quote b ≡ false = slash_no_quote b (and_parts (b == 47) (begins_with_byte 47 bs) is).0 in
     line_agrees b bs line
     (cond-false (is_quote b) (byte_or (closed_at b false 1 bs)) (comment_or_byte b bs) quote
     ∙ cond-false star (comment_len (block_comment text)) (cond slash (comment_len (line_comment text)) 1) no_star
     ∙ cond-true slash (comment_len (line_comment text)) 1 is))
-    (λ no_slash. first_agrees b bs line no_star no_slash))))
+    (λ no_slash. first_agrees language b bs line no_star no_slash))))
 
-pub piece_agrees : (b : ℕ) (bs : List ℕ) → Agrees b bs (piece_at Elsewhere (b ∷ bs))
-piece_agrees b bs = subst (Agrees b bs) (piece_at-is Elsewhere (b ∷ bs) 0 (omega arith)) (piece_by-agrees b bs)
+pub piece_agrees : (language : Language) (b : ℕ) (bs : List ℕ) → Agrees b bs (piece_at language Elsewhere (b ∷ bs))
+piece_agrees language b bs = subst (Agrees b bs) (piece_at-is language Elsewhere (b ∷ bs) 0 (omega arith)) (piece_by-agrees language b bs)

@@ -1,5 +1,5 @@
 -- A text is its tokens in order, with nothing but white space, comments and LFs between them.
-use Rattle.inc_token.specs.declared.kinds.Language.{Language}
+use Rattle.inc_text.specs.declared.languages.Language.{Language}
 use Rattle.std.proofs.Common.{◌≡◌, ℕ, zero, suc, ◌+◌, ◌-◌, ◌≤◌, ◌==◌, Bool, true, false, not, cond, ◌&&◌, List, [], ◌∷◌, ◌++◌, Option, Some, None, Result, Ok, Err, take, drop, refl, sym, ap, ◌∙◌, subst, arith, codes, bytes_eq, nat_lt, nat_eq, option_map, IfOk}
 use Rattle.std.specs.Bool.{if◌then◌else◌}
 use Rattle.std.specs.Option.{option_map_or}
@@ -102,20 +102,20 @@ line_comment-gap b (d ∷ ds) h =
     subst (λ x. GapOf (x ∷ d ∷ ds) (line_comment (x ∷ d ∷ ds))) first
     (subst (λ y. GapOf (47 ∷ y ∷ ds) (line_comment (47 ∷ y ∷ ds))) second (line_gap ds))
 
-token_at-gap : (text : List ℕ) (progress : Progress) (part : List ℕ) → GapOf text (token_at progress part)
-token_at-gap text AtStart part = tt
-token_at-gap text AfterHash part = tt
-token_at-gap text Elsewhere part = tt
-token_at-gap text AfterInclude part = if_by (GapOf text) (nat_lt 0 (longest is_header_name part)) (Lexeme HeaderName (longest is_header_name part)) (longest_token part) (λ _. tt) (λ _. tt)
+token_at-gap : (language : Language) (text : List ℕ) (progress : Progress) (part : List ℕ) → GapOf text (token_at language progress part)
+token_at-gap language text AtStart part = tt
+token_at-gap language text AfterHash part = tt
+token_at-gap language text Elsewhere part = tt
+token_at-gap language text AfterInclude part = if_by (GapOf text) (nat_lt 0 (longest is_header_name part)) (Lexeme HeaderName (longest is_header_name part)) (longest_token language part) (λ _. tt) (λ _. tt)
 
-piece_at-gap : (progress : Progress) (b : ℕ) (bs : List ℕ) → GapOf (b ∷ bs) (piece_at progress (b ∷ bs))
-piece_at-gap progress b bs =
+piece_at-gap : (language : Language) (progress : Progress) (b : ℕ) (bs : List ℕ) → GapOf (b ∷ bs) (piece_at language progress (b ∷ bs))
+piece_at-gap language progress b bs =
     let text : List ℕ = b ∷ bs in
-    let token : Piece = token_at progress (line_part text) in
+    let token : Piece = token_at language progress (line_part text) in
     if_by (GapOf text) (is_blank b) (Blank 1) _ (λ h. h) (λ _.
     if_by (GapOf text) (starts_with nat_eq text (codes "/*")) (block_comment text) _ (block_comment-gap b bs) (λ _.
     if_by (GapOf text) (starts_with nat_eq text (codes "//")) (line_comment text) _ (line_comment-gap b bs) (λ _.
-    if_by (GapOf text) (b == 10) NewLine token (λ h. h) (λ _. token_at-gap text progress (line_part text)))))
+    if_by (GapOf text) (b == 10) NewLine token (λ h. h) (λ _. token_at-gap language text progress (line_part text)))))
 
 -- the cells of a piece and those after it
 whole : (n : ℕ) (c : Cell) (cs rest : List Cell) → 1 ≤ n → rest ≡ drop (n - 1) cs → take n (c ∷ cs) ++ rest ≡ c ∷ cs
@@ -143,53 +143,53 @@ token_from-is space kind n c cs pos =
 both : (s t : Bool) → s ≡ true → t ≡ true → (s && t) ≡ true
 both s t a b = ap (λ u. u && t) a ∙ b
 
-with_piece-parts : (space : Bool) (piece : Piece) (c : Cell) (cs : List Cell) (rest : Result (List TokenLine) LexFault) → 1 ≤ piece_len piece
-    → IsSpelled (bytes_of (c ∷ cs)) piece → GapOf (bytes_of (c ∷ cs)) piece
-    → IfOk rest (λ lines. (parts : List Part) × AreParts (drop (piece_len piece - 1) cs) (is_space piece) lines parts)
-    → IfOk (with_piece space piece c cs rest) (λ lines. (parts : List Part) × AreParts (c ∷ cs) space lines parts)
-with_piece-parts space Unclosed c cs (Err fault) pos s g h = tt
-with_piece-parts space Unclosed c cs (Ok lines) pos s g h = tt
-with_piece-parts space (Blank n) c cs (Err fault) pos s g h = tt
-with_piece-parts space (Blank n) c cs (Ok lines) pos s g h =
+with_piece-parts : (language : Language) (space : Bool) (piece : Piece) (c : Cell) (cs : List Cell) (rest : Result (List TokenLine) LexFault) → 1 ≤ piece_len piece
+    → IsSpelled language (bytes_of (c ∷ cs)) piece → GapOf (bytes_of (c ∷ cs)) piece
+    → IfOk rest (λ lines. (parts : List Part) × AreParts language (drop (piece_len piece - 1) cs) (is_space piece) lines parts)
+    → IfOk (with_piece space piece c cs rest) (λ lines. (parts : List Part) × AreParts language (c ∷ cs) space lines parts)
+with_piece-parts language space Unclosed c cs (Err fault) pos s g h = tt
+with_piece-parts language space Unclosed c cs (Ok lines) pos s g h = tt
+with_piece-parts language space (Blank n) c cs (Err fault) pos s g h = tt
+with_piece-parts language space (Blank n) c cs (Ok lines) pos s g h =
     let here : List Cell = take n (c ∷ cs) in
     let gap : is_gap (bytes_of here) ≡ true = ap is_gap (sym (take-map (λ (x : Cell). x.byte) n (c ∷ cs))) ∙ g in (
       Gap here ∷ h.0,
       record {
-        each = both (is_gap (bytes_of here)) (list_all is_part h.0) gap h.1.each;
+        each = both (is_gap (bytes_of here)) (list_all (is_part language) h.0) gap h.1.each;
         all = whole n c cs (flat_map cells_in h.0) pos h.1.all;
         lines = h.1.lines;
       },
     )
-with_piece-parts space NewLine c cs (Err fault) pos s g h = tt
-with_piece-parts space NewLine c cs (Ok lines) pos s g h = (
+with_piece-parts language space NewLine c cs (Err fault) pos s g h = tt
+with_piece-parts language space NewLine c cs (Ok lines) pos s g h = (
   LineFeed c ∷ h.0,
   record {
-    each = both (c.byte == 10) (list_all is_part h.0) g h.1.each;
+    each = both (c.byte == 10) (list_all (is_part language) h.0) g h.1.each;
     all = whole 1 c cs (flat_map cells_in h.0) pos h.1.all;
     lines = ap (λ (ls : List TokenLine). record { tokens = []; last_line = c.line } ∷ ls) h.1.lines;
   },
 )
-with_piece-parts space (Lexeme kind n) c cs (Err fault) pos s g h = tt
-with_piece-parts space (Lexeme kind n) c cs (Ok lines) pos s g h =
+with_piece-parts language space (Lexeme kind n) c cs (Err fault) pos s g h = tt
+with_piece-parts language space (Lexeme kind n) c cs (Ok lines) pos s g h =
     let more : List Cell = take (n - 1) cs in
-    let spelled : is_spelling kind (bytes_of (c ∷ more)) ≡ true = ap (is_spelling kind) (bytes_of-take n c cs pos) ∙ s in (
+    let spelled : is_spelling language kind (bytes_of (c ∷ more)) ≡ true = ap (is_spelling language kind) (bytes_of-take n c cs pos) ∙ s in (
       Word kind c more ∷ h.0,
       record {
-        each = both (is_spelling kind (bytes_of (c ∷ more))) (list_all is_part h.0) spelled h.1.each;
+        each = both (is_spelling language kind (bytes_of (c ∷ more))) (list_all (is_part language) h.0) spelled h.1.each;
         all = ap (λ (l : List Cell). l ++ flat_map cells_in h.0) (sym (take-pos n c cs pos)) ∙ whole n c cs (flat_map cells_in h.0) pos h.1.all;
         lines = ap (with_token (token_from space kind c more)) h.1.lines ∙ ap (λ (t : Tok). with_token t lines) (token_from-is space kind n c cs pos);
       },
     )
 
-lines_from-parts : (language : Language) (left : ℕ) (progress : Progress) (space : Bool) (cells : List Cell) → IfOk (lines_from language left progress space cells) (λ lines. (parts : List Part) × AreParts (drop left cells) space lines parts)
+lines_from-parts : (language : Language) (left : ℕ) (progress : Progress) (space : Bool) (cells : List Cell) → IfOk (lines_from language left progress space cells) (λ lines. (parts : List Part) × AreParts language (drop left cells) space lines parts)
 lines_from-parts language zero progress space [] = ([], record { each = refl; all = refl; lines = refl })
 lines_from-parts language (suc left) progress space [] = ([], record { each = refl; all = refl; lines = refl })
 lines_from-parts language (suc left) progress space (c ∷ cs) = lines_from-parts language left progress space cs
 lines_from-parts language zero progress space (c ∷ cs) =
     let text : List ℕ = bytes_of (c ∷ cs) in
-    let piece : Piece = piece_at progress text in
-    with_piece-parts space piece c cs _ (piece_at-within progress text (omega arith)).0 (piece_at-spelled progress text) (piece_at-gap progress c.byte (bytes_of cs))
+    let piece : Piece = piece_at language progress text in
+    with_piece-parts language space piece c cs _ (piece_at-within language progress text (omega arith)).0 (piece_at-spelled language progress text) (piece_at-gap language progress c.byte (bytes_of cs))
     (lines_from-parts language (piece_len piece - 1) (progress_after language progress piece text) (is_space piece) cs)
 
-pub token_lines-parts : (language : Language) (cells : List Cell) → IfOk (token_lines language cells) (λ lines. (parts : List Part) × AreParts cells false lines parts)
+pub token_lines-parts : (language : Language) (cells : List Cell) → IfOk (token_lines language cells) (λ lines. (parts : List Part) × AreParts language cells false lines parts)
 token_lines-parts language cells = lines_from-parts language 0 AtStart false cells

@@ -14,89 +14,90 @@ use Rattle.inc_token.proofs.Longest.{IsLongest, longest_on_line, take-line_part}
 use Rattle.inc_token.proofs.Words.{longest_identifier, longest_number}
 use Rattle.inc_token.proofs.Closed.{longest_char, longest_str}
 use Rattle.inc_token.proofs.Punctuators.{longest_punctuator}
+use Rattle.inc_text.specs.declared.languages.Language.{Language}
 
 -- the class by the answers of the six tests
 abbrev choose : Bool → Bool → Bool → Bool → Bool → Bool → Option Kind
 choose i n c s p o =
     cond i (Some Identifier) (cond n (Some Number) (cond c (Some Char) (cond s (Some Str) (cond p (Some Punct) (cond o (Some Other) None)))))
 
-class_of-choose : (t : List ℕ) → class_of t ≡ choose (is_identifier t) (is_number t) (is_char t) (is_str t) (is_punct t) (is_other t)
-class_of-choose t = refl
+class_of-choose : (language : Language) (t : List ℕ) → class_of language t ≡ choose (is_identifier language t) (is_number language t) (is_char t) (is_str t) (is_punct t) (is_other language t)
+class_of-choose language t = refl
 
 no_class : (i n c s p o : Bool) → i ≡ false → n ≡ false → c ≡ false → s ≡ false → p ≡ false → o ≡ false → is_some (choose i n c s p o) ≡ false
 no_class i n c s p o ei en ec es ep eo = rw (ei, en, ec, es, ep, eo) refl
 
-other_is_short : (text : List ℕ) (m : ℕ) → 1 < m → m ≤ length text → is_other (take m text) ≡ false
-other_is_short text zero above below = absurd (omega arith)
-other_is_short text (suc zero) above below = absurd (omega arith)
-other_is_short [] (suc (suc m)) above below = absurd (omega arith)
-other_is_short (a ∷ []) (suc (suc m)) above below = absurd (omega arith)
-other_is_short (a ∷ b ∷ bs) (suc (suc m)) above below = refl
+other_is_short : (language : Language) (text : List ℕ) (m : ℕ) → 1 < m → m ≤ length text → is_other language (take m text) ≡ false
+other_is_short language text zero above below = absurd (omega arith)
+other_is_short language text (suc zero) above below = absurd (omega arith)
+other_is_short language [] (suc (suc m)) above below = absurd (omega arith)
+other_is_short language (a ∷ []) (suc (suc m)) above below = absurd (omega arith)
+other_is_short language (a ∷ b ∷ bs) (suc (suc m)) above below = refl
 
-module _ (text : List ℕ) where
-  token_found : (n : ℕ) (kind : Kind) → 0 < n → n ≤ line_len text → class_of (take n text) ≡ Some kind
-      → identifier_len text ≤ n → number_len text ≤ n → char_len text ≤ n → str_len text ≤ n → punctuator_len text ≤ n
-      → longest_token (line_part text) ≡ Lexeme kind n
+module _ (language : Language) (text : List ℕ) where
+  token_found : (n : ℕ) (kind : Kind) → 0 < n → n ≤ line_len text → class_of language (take n text) ≡ Some kind
+      → identifier_len language text ≤ n → number_len language text ≤ n → char_len text ≤ n → str_len text ≤ n → punctuator_len text ≤ n
+      → longest_token language (line_part text) ≡ Lexeme kind n
   token_found n kind some within class i d c s p =
-      let is : IsLongest is_token text n = record {
+      let is : IsLongest (is_token language) text n = record {
         within = within;
         passes = λ _. ap is_some class;
         fails = λ m above below.
             let over = λ (test : List ℕ → Bool) (k : ℕ) (is' : IsLongest test text k) (le : k ≤ n). is'.fails m (omega arith) below in
-            no_class _ _ _ _ _ _ (over is_identifier _ (longest_identifier text) i) (over is_number _ (longest_number text) d)
+            no_class _ _ _ _ _ _ (over (is_identifier language) _ (longest_identifier language text) i) (over (is_number language) _ (longest_number language text) d)
             (over is_char _ (longest_char text) c) (over is_str _ (longest_str text) s) (over is_punct _ (longest_punctuator text) p)
-            (other_is_short text m (omega arith) below);
+            (other_is_short language text m (omega arith) below);
       } in
       let front = line_part text in
-      ap (λ k. Lexeme (unwrap_or (class_of (take k front)) Other) k) (longest_on_line is_token text n is)
-      ∙ ap (λ t. Lexeme (unwrap_or (class_of t) Other) n) (take-line_part text n within)
+      ap (λ k. Lexeme (unwrap_or (class_of language (take k front)) Other) k) (longest_on_line (is_token language) text n is)
+      ∙ ap (λ t. Lexeme (unwrap_or (class_of language t) Other) n) (take-line_part text n within)
       ∙ ap (λ o. Lexeme (unwrap_or o Other) n) class
 
   below_line : (n : ℕ) → n ≤ line_len text → n ≤ length text
   below_line n le = omega (arith, line_len-le text)
 
-  pub token_identifier : (n : ℕ) → identifier_len text ≡ n → 0 < n → number_len text ≡ 0 → char_len text ≡ 0 → str_len text ≡ 0
-      → punctuator_len text ≡ 0 → longest_token (line_part text) ≡ Lexeme Identifier n
+  pub token_identifier : (n : ℕ) → identifier_len language text ≡ n → 0 < n → number_len language text ≡ 0 → char_len text ≡ 0 → str_len text ≡ 0
+      → punctuator_len text ≡ 0 → longest_token language (line_part text) ≡ Lexeme Identifier n
   token_identifier n e some d c s p =
-      let is = subst (IsLongest is_identifier text) e (longest_identifier text) in
+      let is = subst (IsLongest (is_identifier language) text) e (longest_identifier language text) in
       token_found n Identifier some is.within (rw (is.passes some) refl) (omega arith) (omega arith) (omega arith) (omega arith) (omega arith)
 
-  pub token_number : (n : ℕ) → number_len text ≡ n → 0 < n → identifier_len text ≡ 0 → char_len text ≡ 0 → str_len text ≡ 0
-      → punctuator_len text ≤ n → longest_token (line_part text) ≡ Lexeme Number n
+  pub token_number : (n : ℕ) → number_len language text ≡ n → 0 < n → identifier_len language text ≡ 0 → char_len text ≡ 0 → str_len text ≡ 0
+      → punctuator_len text ≤ n → longest_token language (line_part text) ≡ Lexeme Number n
   token_number n e some i c s p =
-      let is = subst (IsLongest is_number text) e (longest_number text) in
+      let is = subst (IsLongest (is_number language) text) e (longest_number language text) in
       let below = below_line n is.within in
-      let word = (longest_identifier text).fails n (omega arith) below in
+      let word = (longest_identifier language text).fails n (omega arith) below in
       token_found n Number some is.within (rw (word, is.passes some) refl) (omega arith) (omega arith) (omega arith) (omega arith) p
 
-  pub token_char : (n : ℕ) → char_len text ≡ n → identifier_len text < n → number_len text ≡ 0 → str_len text ≡ 0
-      → punctuator_len text ≡ 0 → longest_token (line_part text) ≡ Lexeme Char n
+  pub token_char : (n : ℕ) → char_len text ≡ n → identifier_len language text < n → number_len language text ≡ 0 → str_len text ≡ 0
+      → punctuator_len text ≡ 0 → longest_token language (line_part text) ≡ Lexeme Char n
   token_char n e i d s p =
       let is = subst (IsLongest is_char text) e (longest_char text) in
       let below = below_line n is.within in
       let some : 0 < n = omega arith in
-      let word = (longest_identifier text).fails n i below in
-      let number = (longest_number text).fails n (omega arith) below in
+      let word = (longest_identifier language text).fails n i below in
+      let number = (longest_number language text).fails n (omega arith) below in
       token_found n Char some is.within (rw (word, number, is.passes some) refl) (omega arith) (omega arith) (omega arith) (omega arith) (omega arith)
 
-  pub token_str : (n : ℕ) → str_len text ≡ n → identifier_len text < n → number_len text ≡ 0 → char_len text ≡ 0
-      → punctuator_len text ≡ 0 → longest_token (line_part text) ≡ Lexeme Str n
+  pub token_str : (n : ℕ) → str_len text ≡ n → identifier_len language text < n → number_len language text ≡ 0 → char_len text ≡ 0
+      → punctuator_len text ≡ 0 → longest_token language (line_part text) ≡ Lexeme Str n
   token_str n e i d c p =
       let is = subst (IsLongest is_str text) e (longest_str text) in
       let below = below_line n is.within in
       let some : 0 < n = omega arith in
-      let word = (longest_identifier text).fails n i below in
-      let number = (longest_number text).fails n (omega arith) below in
+      let word = (longest_identifier language text).fails n i below in
+      let number = (longest_number language text).fails n (omega arith) below in
       let char = (longest_char text).fails n (omega arith) below in
       token_found n Str some is.within (rw (word, number, char, is.passes some) refl) (omega arith) (omega arith) (omega arith) (omega arith) (omega arith)
 
-  pub token_punctuator : (n : ℕ) → punctuator_len text ≡ n → 0 < n → identifier_len text ≡ 0 → number_len text ≡ 0 → char_len text ≡ 0
-      → str_len text ≡ 0 → longest_token (line_part text) ≡ Lexeme Punct n
+  pub token_punctuator : (n : ℕ) → punctuator_len text ≡ n → 0 < n → identifier_len language text ≡ 0 → number_len language text ≡ 0 → char_len text ≡ 0
+      → str_len text ≡ 0 → longest_token language (line_part text) ≡ Lexeme Punct n
   token_punctuator n e some i d c s =
       let is = subst (IsLongest is_punct text) e (longest_punctuator text) in
       let below = below_line n is.within in
-      let word = (longest_identifier text).fails n (omega arith) below in
-      let number = (longest_number text).fails n (omega arith) below in
+      let word = (longest_identifier language text).fails n (omega arith) below in
+      let number = (longest_number language text).fails n (omega arith) below in
       let char = (longest_char text).fails n (omega arith) below in
       let str = (longest_str text).fails n (omega arith) below in
       token_found n Punct some is.within (rw (word, number, char, str, is.passes some) refl) (omega arith) (omega arith) (omega arith) (omega arith) (omega arith)
@@ -105,15 +106,15 @@ other_chosen : (i n c s p blank line : Bool) → i ≡ false → n ≡ false →
     → choose i n c s p (not (blank || line || (i || n || c || s || p))) ≡ Some Other
 other_chosen i n c s p blank line ei en ec es ep eb el = rw (ei, en, ec, es, ep, eb, el) refl
 
-pub token_other : (b : ℕ) (bs : List ℕ) → is_blank b ≡ false → (b == 10) ≡ false → identifier_len (b ∷ bs) ≡ 0 → number_len (b ∷ bs) ≡ 0
-    → char_len (b ∷ bs) ≡ 0 → str_len (b ∷ bs) ≡ 0 → punctuator_len (b ∷ bs) ≡ 0 → longest_token (line_part (b ∷ bs)) ≡ Lexeme Other 1
-token_other b bs blank line i d c s p =
+pub token_other : (language : Language) (b : ℕ) (bs : List ℕ) → is_blank b ≡ false → (b == 10) ≡ false → identifier_len language (b ∷ bs) ≡ 0 → number_len language (b ∷ bs) ≡ 0
+    → char_len (b ∷ bs) ≡ 0 → str_len (b ∷ bs) ≡ 0 → punctuator_len (b ∷ bs) ≡ 0 → longest_token language (line_part (b ∷ bs)) ≡ Lexeme Other 1
+token_other language b bs blank line i d c s p =
     let text = b ∷ bs in
-    let word : is_identifier (b ∷ []) ≡ false = (longest_identifier text).fails 1 (omega arith) (omega arith) in
-    let number : is_number (b ∷ []) ≡ false = (longest_number text).fails 1 (omega arith) (omega arith) in
+    let word : is_identifier language (b ∷ []) ≡ false = (longest_identifier language text).fails 1 (omega arith) (omega arith) in
+    let number : is_number language (b ∷ []) ≡ false = (longest_number language text).fails 1 (omega arith) (omega arith) in
     let char : is_char (b ∷ []) ≡ false = (longest_char text).fails 1 (omega arith) (omega arith) in
     let str : is_str (b ∷ []) ≡ false = (longest_str text).fails 1 (omega arith) (omega arith) in
     let punct : is_punct (b ∷ []) ≡ false = (longest_punctuator text).fails 1 (omega arith) (omega arith) in
-    token_found text 1 Other (omega arith) (line_from b 0 bs line (omega arith))
+    token_found language text 1 Other (omega arith) (line_from b 0 bs line (omega arith))
     (other_chosen _ _ _ _ _ _ _ word number char str punct blank line)
     (omega arith) (omega arith) (omega arith) (omega arith) (omega arith)

@@ -1,5 +1,5 @@
 -- The lexer's walk over a text, piece by piece, with the lines that it gives.
-use Rattle.inc_token.specs.declared.kinds.Language.{Language}
+use Rattle.inc_text.specs.declared.languages.Language.{Language}
 use Rattle.std.proofs.Common.{◌≡◌, ℕ, zero, suc, ◌-◌, ◌≤◌, Bool, true, false, List, [], ◌∷◌, ◌++◌, Result, Ok, Err, length, take, drop, refl, sym, ap, ◌∙◌, subst, arith}
 use Rattle.std.proofs.lemmas.List.{take-append-drop, length-map, length-drop, length-take-le}
 use Rattle.inc_text.specs.PhaseText.{Cell, bytes_of}
@@ -18,14 +18,14 @@ use Rattle.inc_token.proofs.PieceBounds.{piece_at-within}
 pub data Walk (language : Language) : Progress → Bool → List Cell → List TokenLine → Type 0 where
   at_end : {progress : Progress} {space : Bool} → Walk language progress space [] []
   over_gap : {progress : Progress} {space : Bool} {ls : List TokenLine} (c : Cell) (cs rest : List Cell)
-      → piece_at progress (bytes_of (c ∷ (cs ++ rest))) ≡ Blank (length (c ∷ cs))
+      → piece_at language progress (bytes_of (c ∷ (cs ++ rest))) ≡ Blank (length (c ∷ cs))
       → Walk language progress true rest ls → (cells : List Cell) → cells ≡ c ∷ (cs ++ rest) → Walk language progress space cells ls
   over_end : {progress : Progress} {space : Bool} {ls : List TokenLine} (c : Cell) (rest : List Cell)
-      → piece_at progress (bytes_of (c ∷ rest)) ≡ NewLine
+      → piece_at language progress (bytes_of (c ∷ rest)) ≡ NewLine
       → Walk language AtStart false rest ls → Walk language progress space (c ∷ rest) (record { tokens = []; last_line = c.line } ∷ ls)
   over_token : {progress : Progress} {space : Bool} {ls : List TokenLine} (kind : Kind) (c : Cell)
       (cs rest : List Cell)
-      → piece_at progress (bytes_of (c ∷ (cs ++ rest))) ≡ Lexeme kind (length (c ∷ cs))
+      → piece_at language progress (bytes_of (c ∷ (cs ++ rest))) ≡ Lexeme kind (length (c ∷ cs))
       → Walk language (progress_with language progress (bytes_of (c ∷ cs))) false rest ls
       → (cells : List Cell) → cells ≡ c ∷ (cs ++ rest)
       → Walk language progress space cells (with_token (token_from space kind c cs) ls)
@@ -64,9 +64,9 @@ end_front : (c : Cell) (cs rest : List Cell) → range_end (length cs) c (cs ++ 
 end_front c [] rest = refl
 end_front c (d ∷ ds) rest = end_front d ds rest
 
-token_is : (space : Bool) (kind : Kind) (c : Cell) (cs rest : List Cell)
+token_is : (language : Language) (space : Bool) (kind : Kind) (c : Cell) (cs rest : List Cell)
     → token_of space kind (length (c ∷ cs)) c (cs ++ rest) ≡ token_from space kind c cs
-token_is space kind c cs rest =
+token_is language space kind c cs rest =
     let one : length (c ∷ cs) - 1 ≡ length cs = omega arith in
     let make : List ℕ → ℕ → Tok = λ bytes last. record {
       kind = kind;
@@ -98,7 +98,7 @@ walk_lines language {progress} {space} (over_token {ls = ls} kind c cs rest piec
     ∙ with_lexeme space kind n c (cs ++ rest) _ ls
     (ap (λ t. lines_from language 0 (progress_with language progress t) false (drop n (c ∷ (cs ++ rest)))) (take_bytes c cs rest)
     ∙ ap (lines_from language 0 (progress_with language progress (bytes_of (c ∷ cs))) false) (drop_front cs rest c) ∙ walk_lines language more)
-    ∙ ap (λ t. Ok (with_token t ls)) (token_is space kind c cs rest)
+    ∙ ap (λ t. Ok (with_token t ls)) (token_is language space kind c cs rest)
 
 ---- the lines come by a walk
 
@@ -151,7 +151,7 @@ next language progress piece c cs =
 
 by_piece : (language : Language) (fuel : ℕ) (progress : Progress) (space : Bool) (c : Cell) (cs : List Cell) (ls : List TokenLine)
     (piece : Piece)
-    → piece_at progress (bytes_of (c ∷ cs)) ≡ piece → 1 ≤ piece_len piece → piece_len piece ≤ length (c ∷ cs)
+    → piece_at language progress (bytes_of (c ∷ cs)) ≡ piece → 1 ≤ piece_len piece → piece_len piece ≤ length (c ∷ cs)
     → length cs ≤ fuel
     → Rest language fuel → lines_from language 0 progress space (c ∷ cs) ≡ Ok ls → Walk language progress space (c ∷ cs) ls
 by_piece language fuel progress space c cs ls Unclosed is some le short again lines =
@@ -166,7 +166,7 @@ by_piece language fuel progress space c cs ls (Blank n) is some le short again l
     let r = gap_lines space n c cs (next language progress (Blank n) c cs) ls
     (sym (lines_from-piece language progress space c cs (Blank n) is some) ∙ lines) in
     let size : length s.1 ≤ fuel = omega (arith, some, short, ap length s.4, length-drop n (c ∷ cs)) in
-    over_gap c s.0 s.1 (ap (λ xs. piece_at progress (bytes_of xs)) (sym s.2) ∙ is ∙ ap Blank (sym s.3))
+    over_gap c s.0 s.1 (ap (λ xs. piece_at language progress (bytes_of xs)) (sym s.2) ∙ is ∙ ap Blank (sym s.3))
     (again progress true s.1 ls size (ap (lines_from language 0 progress true) s.4 ∙ r)) (c ∷ cs) s.2
 by_piece language fuel progress space c cs ls (Lexeme kind n) is some le short again lines =
     let s = split_at n c cs some le in
@@ -175,12 +175,12 @@ by_piece language fuel progress space c cs ls (Lexeme kind n) is some le short a
     let size : length s.1 ≤ fuel = omega (arith, some, short, ap length s.4, length-drop n (c ∷ cs)) in
     let same : token_of space kind n c cs ≡ token_from space kind c s.0 =
     ap (λ k. token_of space kind k c cs) (sym s.3) ∙ of_cells (length (c ∷ s.0)) cs (s.0 ++ s.1) s.2
-    ∙ token_is space kind c s.0 s.1 in
+    ∙ token_is language space kind c s.0 s.1 in
     let spelled : take n (bytes_of (c ∷ cs)) ≡ bytes_of (c ∷ s.0) =
     ap (λ k. take k (bytes_of (c ∷ cs))) (sym s.3) ∙ ap (λ xs. take (length (c ∷ s.0)) (bytes_of xs)) s.2
     ∙ take_bytes c s.0 s.1 in
     subst (Walk language progress space (c ∷ cs)) (ap (λ t. with_token t r.0) (sym same) ∙ sym r.2)
-    (over_token kind c s.0 s.1 (ap (λ xs. piece_at progress (bytes_of xs)) (sym s.2) ∙ is
+    (over_token kind c s.0 s.1 (ap (λ xs. piece_at language progress (bytes_of xs)) (sym s.2) ∙ is
     ∙ ap (Lexeme kind) (sym s.3))
     (again (progress_with language progress (bytes_of (c ∷ s.0))) false s.1 r.0 size
     (ap (lines_from language 0 (progress_with language progress (bytes_of (c ∷ s.0))) false) s.4
@@ -194,9 +194,9 @@ walk_by language fuel progress space [] ls short is = let e : ls ≡ [] = cc in 
 walk_by language zero progress space (c ∷ cs) ls short is = absurd (omega (arith, short))
 walk_by language (suc fuel) progress space (c ∷ cs) ls short is =
     let text : List ℕ = bytes_of (c ∷ cs) in
-    let bound = piece_at-within progress text (omega arith) in
+    let bound = piece_at-within language progress text (omega arith) in
     let size : length text ≡ length (c ∷ cs) = length-map (c ∷ cs) (λ (d : Cell). d.byte) in
-    by_piece language fuel progress space c cs ls (piece_at progress text) refl bound.0 (omega (arith, bound.1, size))
+    by_piece language fuel progress space c cs ls (piece_at language progress text) refl bound.0 (omega (arith, bound.1, size))
     (omega (arith, short)) (walk_by language fuel) is
 
 pub lines_walk : (language : Language) (progress : Progress) (space : Bool) (cells : List Cell) (ls : List TokenLine)

@@ -1,7 +1,7 @@
 -- The token lines of a source of which some are blanked.
 use Rattle.std.specs.Prelude.{◌≡◌, ◌<◌, ℕ, not, Bool, false, List, [], ◌∷◌, Ok, IsTrue}
 use Rattle.inc_text.specs.PhaseText.{phase_text}
-use Rattle.inc_token.specs.declared.kinds.Language.{Language}
+use Rattle.inc_text.specs.declared.languages.Language.{Language}
 use Rattle.inc_token.specs.Blanking.{blanked_lines}
 use Rattle.inc_token.specs.TokenLines.{Tok, TokenLine, token_lines}
 
@@ -21,5 +21,5 @@ pub data AreReplaced (test : List Tok → Bool) : List TokenLine → List TokenL
 abbrev pub BlankedLines : Type 0
 BlankedLines =
     (language : Language) (test : List Tok → Bool) (source : List ℕ) (lines : List TokenLine) → test [] ≡ false →
-    token_lines language (phase_text source) ≡ Ok lines →
-    (blank : List TokenLine) × (token_lines language (phase_text (blanked_lines test lines source)) ≡ Ok blank) × AreReplaced test lines blank
+    token_lines language (phase_text language source) ≡ Ok lines →
+    (blank : List TokenLine) × (token_lines language (phase_text language (blanked_lines test lines source)) ≡ Ok blank) × AreReplaced test lines blank

@@ -8,7 +8,7 @@ use Rattle.inc_token.specs.Prefixes.{Operand, Prefix, first_operand, prefix_afte
 use Rattle.inc_token.specs.Views.{line_in, seen_operand, seen_prefix}
 use Rattle.inc_token.specs.Spellings.{is_blank}
 use Rattle.inc_token.specs.TokenLines.{Tok, TokenLine, is_hash, is_include_name, lines_from}
-use Rattle.inc_token.specs.declared.kinds.Language.{Language}
+use Rattle.inc_text.specs.declared.languages.Language.{Language}
 use Rattle.inc_token.specs.declared.lines.LexFault.{LexFault}
 use Rattle.inc_token.specs.declared.lines.fronts.Front.{Front}
 use Rattle.inc_token.specs.declared.lines.fronts.Front.TheVariants as front

@@ -5,7 +5,7 @@ use Rattle.inc_text.specs.PhaseText.{Cell, bytes_of}
 use Rattle.inc_token.specs.Prefixes.{prefix_of}
 use Rattle.inc_token.specs.TokenLines.{Tok, TokenLine, token_lines}
 use Rattle.inc_token.specs.Views.{line_in, seen_prefix}
-use Rattle.inc_token.specs.declared.kinds.Language.{Language}
+use Rattle.inc_text.specs.declared.languages.Language.{Language}
 use Rattle.inc_token.specs.declared.lines.LexFault.{LexFault}
 use Rattle.inc_token.specs.declared.lines.fronts.LineSketch.{LineSketch}
 use Rattle.inc_token.specs.declared.lines.fronts.Prefix.{Prefix as PrefixValue}

@@ -2,7 +2,7 @@
 -- directive is a line whose first token is # or the digraph %:.
 use Rattle.std.specs.Prelude.{ℕ, List, [], ◌∷◌, Option, Some, None, if◌then◌else◌}
 use Rattle.inc_token.specs.TokenLines.{Tok, is_hash, is_include_name}
-use Rattle.inc_token.specs.declared.kinds.Language.{Language}
+use Rattle.inc_text.specs.declared.languages.Language.{Language}
 use Rattle.inc_token.specs.declared.kinds.Kind.{Kind}
 
 -- the token after the name of an include directive: its class and its bytes

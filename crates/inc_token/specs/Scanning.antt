@@ -10,7 +10,8 @@ use Rattle.inc_token.specs.declared.pieces.Piece.TheVariants.{NewLine, Lexeme}
 use Rattle.inc_token.specs.declared.pieces.Progress.{Progress}
 use Rattle.inc_token.specs.declared.pieces.Progress.TheVariants.{AfterInclude}
 use Rattle.inc_token.specs.TokenLines.{block_comment, line_comment}
-use Rattle.inc_token.specs.Spellings.{is_digit, is_letter, identifier_part, number_part, is_empty, punctuators}
+use Rattle.inc_token.specs.Spellings.{begins_nondigit, is_digit, is_letter, identifier_part, number_part, is_empty, punctuators}
+use Rattle.inc_text.specs.declared.languages.Language.{Language}
 
 -- the length of the longest row of parts at the front; `left` is what is left of a part that began before
 abbrev pub row_len : (List ℕ → ℕ) → ℕ → List ℕ → ℕ
@@ -149,32 +150,32 @@ abbrev pub is_other_byte : ℕ → Bool
 is_other_byte b = not (is_row_byte b)
 
 -- `first_token` of a text that begins with a digit or a letter
-abbrev pub word_token : List ℕ → Piece
-word_token [] = NewLine
-word_token (b ∷ bs) =
-    let word = row_len identifier_part 0 (b ∷ bs) in
-    if is_digit b then Lexeme Number (row_len number_part 0 (b ∷ bs)) else
+abbrev pub word_token : Language → List ℕ → Piece
+word_token language [] = NewLine
+word_token language (b ∷ bs) =
+    let word = row_len (identifier_part language) 0 (b ∷ bs) in
+    if is_digit b then Lexeme Number (row_len (number_part language) 0 (b ∷ bs)) else
     if is_wide b then wide_token (quoted_len apostrophe 1 bs) (wide_str_len b bs) word else lexeme_or_other Identifier word
 
 -- `first_token` of a text that begins with another byte
-abbrev pub mark_token : List ℕ → Piece
-mark_token [] = NewLine
-mark_token (b ∷ bs) =
-    if begins_with_point (b ∷ bs) then Lexeme Number (row_len number_part 0 (b ∷ bs)) else
-    if b == backslash then lexeme_or_other Identifier (row_len identifier_part 0 (b ∷ bs)) else
+abbrev pub mark_token : Language → List ℕ → Piece
+mark_token language [] = NewLine
+mark_token language (b ∷ bs) =
+    if begins_with_point (b ∷ bs) then Lexeme Number (row_len (number_part language) 0 (b ∷ bs)) else
+    if begins_nondigit language b then lexeme_or_other Identifier (row_len (identifier_part language) 0 (b ∷ bs)) else
     if b == quotation_mark then lexeme_or_other Str (closed_at quotation_mark false 1 bs) else
     if b == apostrophe then lexeme_or_other Char (closed_at apostrophe false 1 bs) else lexeme_or_other Punct (punctuator_len (b ∷ bs))
 
 -- the same, where a header name may count
-abbrev pub mark_by : Progress → List ℕ → Piece
-mark_by AfterInclude text = if nat_lt 0 (header_name_len text) then Lexeme HeaderName (header_name_len text) else mark_token text
-mark_by _ text = mark_token text
+abbrev pub mark_by : Language → Progress → List ℕ → Piece
+mark_by language AfterInclude text = if nat_lt 0 (header_name_len text) then Lexeme HeaderName (header_name_len text) else mark_token language text
+mark_by language _ text = mark_token language text
 
 -- `piece_by` of a text that begins with no white space of one byte, with digits and letters first
-abbrev pub piece_behind_blanks : Progress → List ℕ → Piece
-piece_behind_blanks progress [] = NewLine
-piece_behind_blanks progress (b ∷ bs) =
-    if is_row_byte b then word_token (b ∷ bs) else
+abbrev pub piece_behind_blanks : Language → Progress → List ℕ → Piece
+piece_behind_blanks language progress [] = NewLine
+piece_behind_blanks language progress (b ∷ bs) =
+    if is_row_byte b then word_token language (b ∷ bs) else
     if b == line_feed then NewLine else
     if (b == slash) && begins_with_byte asterisk bs then block_comment (b ∷ bs) else
-    if (b == slash) && begins_with_byte slash bs then line_comment (b ∷ bs) else mark_by progress (b ∷ bs)
+    if (b == slash) && begins_with_byte slash bs then line_comment (b ∷ bs) else mark_by language progress (b ∷ bs)

@@ -1,9 +1,11 @@
 -- Preprocessing tokens (ISO/IEC 9899:2018, 6.4): for each class, whether the whole of a text is spelled in it.
 -- Choices of this profile: bytes 128 to 255 are non-digits, a universal character name may have any value, escape
--- sequences are not checked, '' is a character constant, and a quote without a partner is a token by itself.
+-- sequences are not checked, '' is a character constant, and a quote without a partner is a token by itself. In GNU C $ is a non-digit.
 use Rattle.std.specs.Prelude.{ℕ, zero, suc, ◌-◌, ◌==◌, ◌&&◌, ◌||◌, not, Bool, true, false, List, [], ◌∷◌, Option, Some, None, if◌then◌else◌, nat_lt, nat_le, codes, bytes_eq}
 use Rattle.std.specs.List.{list_any}
-use Rattle.inc_text.specs.Ascii.{apostrophe, backslash, blank, capital_a, capital_e, capital_f, capital_p, capital_u, capital_z, carriage_return, digit_nine, digit_zero, form_feed, full_stop, greater_than, less_than, line_feed, minus, plus, quotation_mark, small_a, small_e, small_f, small_p, small_u, small_z, tab, underscore, vertical_tab}
+use Rattle.inc_text.specs.Ascii.{apostrophe, backslash, blank, capital_a, capital_e, capital_f, capital_p, capital_u, capital_z, carriage_return, digit_nine, digit_zero, dollar, form_feed, full_stop, greater_than, less_than, line_feed, minus, plus, quotation_mark, small_a, small_e, small_f, small_p, small_u, small_z, tab, underscore, vertical_tab}
+use Rattle.inc_text.specs.Languages.{is_gnu}
+use Rattle.inc_text.specs.declared.languages.Language.{Language}
 use Rattle.inc_token.specs.declared.kinds.Kind.{Kind}
 use Rattle.inc_token.specs.declared.kinds.Kind.TheVariants.{HeaderName, Identifier, Number, Char, Str, Punct, Other}
 
@@ -36,10 +38,23 @@ universal_len (a ∷ b ∷ bs) =
     if (a == backslash) && (b == capital_u) && begins_with_hex 8 bs then 10 else 0
 universal_len _ = 0
 
+-- a $, which is a non-digit in GNU C
+abbrev pub is_dollar : Language → ℕ → Bool
+is_dollar language b = (b == dollar) && is_gnu language
+
+-- a byte that is no letter and may begin a non-digit: a \, or a $ in GNU C
+abbrev pub begins_nondigit : Language → ℕ → Bool
+begins_nondigit language b = (b == backslash) || is_dollar language b
+
+-- the length of the non-digit at the front that is no letter, 0 where there is none
+abbrev pub nonletter_len : Language → List ℕ → ℕ
+nonletter_len language [] = 0
+nonletter_len language (b ∷ bs) = if is_dollar language b then 1 else universal_len (b ∷ bs)
+
 -- the length of the non-digit at the front, 0 where there is none (6.4.2.1)
-abbrev pub nondigit_len : List ℕ → ℕ
-nondigit_len [] = 0
-nondigit_len (b ∷ bs) = if is_letter b then 1 else universal_len (b ∷ bs)
+abbrev pub nondigit_len : Language → List ℕ → ℕ
+nondigit_len language [] = 0
+nondigit_len language (b ∷ bs) = if is_letter b then 1 else nonletter_len language (b ∷ bs)
 
 -- the text is a row of parts, each as long as `part` gives at its front; `left` is what is left of a part that began before
 abbrev pub is_row : (List ℕ → ℕ) → ℕ → List ℕ → Bool
@@ -48,25 +63,25 @@ is_row part (suc left) (b ∷ bs) = is_row part left bs
 is_row part zero (b ∷ bs) = nat_lt 0 (part (b ∷ bs)) && is_row part (part (b ∷ bs) - 1) bs
 
 -- a digit or a non-digit at the front
-abbrev pub identifier_part : List ℕ → ℕ
-identifier_part [] = 0
-identifier_part (b ∷ bs) = if is_digit b then 1 else nondigit_len (b ∷ bs)
+abbrev pub identifier_part : Language → List ℕ → ℕ
+identifier_part language [] = 0
+identifier_part language (b ∷ bs) = if is_digit b then 1 else nondigit_len language (b ∷ bs)
 
 -- 6.4.2.1: a non-digit, then non-digits and digits
-abbrev pub is_identifier : List ℕ → Bool
-is_identifier text = nat_lt 0 (nondigit_len text) && is_row identifier_part 0 text
+abbrev pub is_identifier : Language → List ℕ → Bool
+is_identifier language text = nat_lt 0 (nondigit_len language text) && is_row (identifier_part language) 0 text
 
 -- e, E, p or P
 abbrev pub is_exponent_letter : ℕ → Bool
 is_exponent_letter b = (b == small_e) || (b == capital_e) || (b == small_p) || (b == capital_p)
 
 -- an exponent letter with a sign, a digit, a non-digit or . at the front
-abbrev pub number_part : List ℕ → ℕ
-number_part (a ∷ b ∷ bs) =
+abbrev pub number_part : Language → List ℕ → ℕ
+number_part language (a ∷ b ∷ bs) =
     if is_exponent_letter a && ((b == plus) || (b == minus)) then 2 else
-    if a == full_stop then 1 else identifier_part (a ∷ b ∷ bs)
-number_part (b ∷ []) = if b == full_stop then 1 else identifier_part (b ∷ [])
-number_part [] = 0
+    if a == full_stop then 1 else identifier_part language (a ∷ b ∷ bs)
+number_part language (b ∷ []) = if b == full_stop then 1 else identifier_part language (b ∷ [])
+number_part language [] = 0
 
 -- a digit, or . and a digit, at the front
 abbrev pub begins_number : List ℕ → Bool
@@ -75,8 +90,8 @@ begins_number (b ∷ []) = is_digit b
 begins_number [] = false
 
 -- 6.4.8: a digit, or . and a digit, then digits, non-digits, . and exponent letters with a sign
-abbrev pub is_number : List ℕ → Bool
-is_number text = begins_number text && is_row number_part 0 text
+abbrev pub is_number : Language → List ℕ → Bool
+is_number language text = begins_number text && is_row (number_part language) 0 text
 
 -- the text has no byte
 abbrev pub is_empty : List ℕ → Bool
@@ -130,23 +145,23 @@ abbrev pub is_blank : ℕ → Bool
 is_blank b = (b == blank) || (b == tab) || (b == vertical_tab) || (b == form_feed) || (b == carriage_return)
 
 -- the text lies in one of the classes above
-abbrev pub is_one_above : List ℕ → Bool
-is_one_above text = is_identifier text || is_number text || is_char text || is_str text || is_punct text
+abbrev pub is_one_above : Language → List ℕ → Bool
+is_one_above language text = is_identifier language text || is_number language text || is_char text || is_str text || is_punct text
 
 -- one byte that is no white space, no LF, and in no class above
-abbrev pub is_other : List ℕ → Bool
-is_other (b ∷ []) = not (is_blank b || (b == line_feed) || is_one_above (b ∷ []))
-is_other _ = false
+abbrev pub is_other : Language → List ℕ → Bool
+is_other language (b ∷ []) = not (is_blank b || (b == line_feed) || is_one_above language (b ∷ []))
+is_other language _ = false
 
 -- the class in which the whole of the text lies. No text lies in two
-abbrev pub class_of : List ℕ → Option Kind
-class_of text =
-    if is_identifier text then Some Identifier else
-    if is_number text then Some Number else
+abbrev pub class_of : Language → List ℕ → Option Kind
+class_of language text =
+    if is_identifier language text then Some Identifier else
+    if is_number language text then Some Number else
     if is_char text then Some Char else
     if is_str text then Some Str else
     if is_punct text then Some Punct else
-    if is_other text then Some Other else None
+    if is_other language text then Some Other else None
 
 -- bytes other than LF and `close`, then `close`
 abbrev pub is_name_until : ℕ → List ℕ → Bool
@@ -160,11 +175,11 @@ is_header_name (a ∷ b ∷ bs) =
 is_header_name _ = false
 
 -- the whole of the text is a spelling of the class
-abbrev pub is_spelling : Kind → List ℕ → Bool
-is_spelling HeaderName text = is_header_name text
-is_spelling Identifier text = is_identifier text
-is_spelling Number text = is_number text
-is_spelling Char text = is_char text
-is_spelling Str text = is_str text
-is_spelling Punct text = is_punct text
-is_spelling Other text = is_other text
+abbrev pub is_spelling : Language → Kind → List ℕ → Bool
+is_spelling language HeaderName text = is_header_name text
+is_spelling language Identifier text = is_identifier language text
+is_spelling language Number text = is_number language text
+is_spelling language Char text = is_char text
+is_spelling language Str text = is_str text
+is_spelling language Punct text = is_punct text
+is_spelling language Other text = is_other language text

@@ -6,14 +6,15 @@ use Rattle.inc_text.specs.PhaseText.{Cell, bytes_of}
 use Rattle.inc_token.specs.Spellings.{is_spelling, is_blank, is_empty}
 use Rattle.inc_token.specs.TokenLines.{Tok, TokenLine, with_token}
 use Rattle.inc_token.specs.declared.kinds.Kind.{Kind}
+use Rattle.inc_text.specs.declared.languages.Language.{Language}
 
 -- the token's bytes lie in its class
-abbrev pub is_spelled : Tok → Bool
-is_spelled t = is_spelling t.kind t.spelling
+abbrev pub is_spelled : Language → Tok → Bool
+is_spelled language t = is_spelling language t.kind t.spelling
 
 -- those of each token of the line
-abbrev pub has_spellings : TokenLine → Bool
-has_spellings l = list_all is_spelled l.tokens
+abbrev pub has_spellings : Language → TokenLine → Bool
+has_spellings language l = list_all (is_spelled language) l.tokens
 
 -- */ is at the end of the text, and nowhere before
 abbrev pub is_closed_comment : List ℕ → Bool
@@ -39,10 +40,10 @@ cells_in (LineFeed c) = c ∷ []
 cells_in (Word kind c cs) = c ∷ cs
 
 -- a gap is white space or a comment, and a token lies in its class
-abbrev pub is_part : Part → Bool
-is_part (Gap cells) = is_gap (bytes_of cells)
-is_part (LineFeed c) = c.byte == line_feed
-is_part (Word kind c cs) = is_spelling kind (bytes_of (c ∷ cs))
+abbrev pub is_part : Language → Part → Bool
+is_part language (Gap cells) = is_gap (bytes_of cells)
+is_part language (LineFeed c) = c.byte == line_feed
+is_part language (Word kind c cs) = is_spelling language kind (bytes_of (c ∷ cs))
 
 -- where the source bytes of the cells end
 abbrev pub last_of : Cell → List Cell → ℕ
@@ -62,8 +63,8 @@ lines_in space (LineFeed c ∷ parts) = record { tokens = []; last_line = c.line
 lines_in space (Word kind c cs ∷ parts) = with_token (token_from space kind c cs) (lines_in false parts)
 
 -- the cells are gaps, LFs and tokens one after the other, and these are their lines
-pub record AreParts (cells : List Cell) (space : Bool) (result : List TokenLine) (parts : List Part) : Type 0 where
-  pub each : IsTrue (list_all is_part parts)
+pub record AreParts (language : Language) (cells : List Cell) (space : Bool) (result : List TokenLine) (parts : List Part) : Type 0 where
+  pub each : IsTrue (list_all (is_part language) parts)
   pub all : flat_map cells_in parts ≡ cells
   pub lines : lines_in space parts ≡ result
 

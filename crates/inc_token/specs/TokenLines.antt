@@ -11,8 +11,8 @@ use Rattle.inc_token.specs.declared.kinds.Kind.{Kind}
 use Rattle.inc_token.specs.declared.kinds.Kind.TheVariants.{HeaderName, Other}
 use Rattle.inc_token.specs.declared.kinds.IncludeName.{IncludeName}
 use Rattle.inc_token.specs.declared.kinds.IncludeName.TheVariants.{Include, IncludeNext, Import}
-use Rattle.inc_token.specs.declared.kinds.Language.{Language}
-use Rattle.inc_token.specs.declared.kinds.Language.TheVariants.{Gnu}
+use Rattle.inc_text.specs.declared.languages.Language.{Language}
+use Rattle.inc_text.specs.declared.languages.Language.TheVariants.{Gnu}
 use Rattle.inc_token.specs.declared.pieces.Piece.{Piece}
 use Rattle.inc_token.specs.declared.pieces.Piece.TheVariants.{Blank, NewLine, Lexeme, Unclosed}
 use Rattle.inc_token.specs.declared.pieces.Progress.{Progress}
@@ -52,20 +52,20 @@ abbrev pub longest : (List ℕ → Bool) → List ℕ → ℕ
 longest test text = longest_within test text (length text)
 
 -- the text lies in a class
-abbrev pub is_token : List ℕ → Bool
-is_token text = is_some (class_of text)
+abbrev pub is_token : Language → List ℕ → Bool
+is_token language text = is_some (class_of language text)
 
 -- the longest prefix that lies in a class. Each byte that is no white space and no LF lies in one, so there is such a prefix
-abbrev pub longest_token : List ℕ → Piece
-longest_token text = let n = longest is_token text in Lexeme (unwrap_or (class_of (take n text)) Other) n
+abbrev pub longest_token : Language → List ℕ → Piece
+longest_token language text = let n = longest (is_token language) text in Lexeme (unwrap_or (class_of language (take n text)) Other) n
 
 -- the header name at the front, where there is one
 abbrev pub header_name_or : Piece → List ℕ → Piece
 header_name_or other text = let n = longest is_header_name text in if nat_lt 0 n then Lexeme HeaderName n else other
 
-abbrev pub token_at : Progress → List ℕ → Piece
-token_at AfterInclude text = header_name_or (longest_token text) text
-token_at _ text = longest_token text
+abbrev pub token_at : Language → Progress → List ℕ → Piece
+token_at language AfterInclude text = header_name_or (longest_token language text) text
+token_at language _ text = longest_token language text
 
 -- the length up to the next */ and with it
 abbrev pub comment_rest : List ℕ → Option ℕ
@@ -85,10 +85,10 @@ abbrev pub line_part : List ℕ → List ℕ
 line_part text = take_while (λ b. not (b == line_feed)) text
 
 -- what is at the front of a text that is not empty
-abbrev pub piece_at : Progress → List ℕ → Piece
-piece_at progress [] = NewLine
-piece_at progress (b ∷ bs) =
-    let token = token_at progress (line_part (b ∷ bs)) in
+abbrev pub piece_at : Language → Progress → List ℕ → Piece
+piece_at language progress [] = NewLine
+piece_at language progress (b ∷ bs) =
+    let token = token_at language progress (line_part (b ∷ bs)) in
     if is_blank b then Blank 1 else
     if starts_with nat_eq (b ∷ bs) (codes "/*") then block_comment (b ∷ bs) else
     if starts_with nat_eq (b ∷ bs) (codes "//") then line_comment (b ∷ bs) else
@@ -162,7 +162,7 @@ lines_from language left progress space [] = Ok []
 lines_from language (suc left) progress space (c ∷ cs) = lines_from language left progress space cs
 lines_from language zero progress space (c ∷ cs) =
     let text = bytes_of (c ∷ cs) in
-    let piece = piece_at progress text in
+    let piece = piece_at language progress text in
     with_piece space piece c cs (lines_from language (piece_len piece - 1) (progress_after language progress piece text) (is_space piece) cs)
 
 -- the lines of tokens of a text that is empty or ends in LF

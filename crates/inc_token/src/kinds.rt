@@ -63,14 +63,3 @@ pub enum IncludeName {
     /// `#import`, of GNU C alone: it reads no file that was read before.
     Import,
 }
-
-/// The language that a source is written in.
-#[derive(Clone, Copy, Debug, PartialEq, Eq)]
-pub enum Language {
-    /// ISO/IEC 9899:2018.
-    C17,
-    /// The same with `#elifdef`, `#elifndef`, `#warning` and binary constants, as in ISO/IEC 9899:2024.
-    Extended,
-    /// GNU C, as gcc has it under `-std=gnu17`, in the names of directives and in what they ask for.
-    Gnu,
-}

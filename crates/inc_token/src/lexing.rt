@@ -8,10 +8,10 @@ ghost use Rattle.inc_token.specs.TokenLines.{Tok, piece_at, progress_with, token
 ghost use Rattle.inc_token.specs.Views.{seen};
 ghost use Rattle.inc_token.specs.declared.lines.LexFault.TheVariants.{NoMemory};
 
-use crate::kinds::{Kind, Language};
+use crate::kinds::Kind;
 use crate::lines::{LexFault, LineEnd, Token, is_hash, is_include_name, lent};
 use crate::pieces::{Piece, Progress, Unmatched, next_piece, skip_blanks};
-use inc_text::{Cursor, Text};
+use inc_text::{Cursor, Language, Text};
 use std::alloc::Global;
 
 /// A token at a place of a text.
@@ -139,7 +139,13 @@ impl<'a> Lexer<'a> {
         ensures gives { IfOk result (λ step. Gives self.old step self.new) }
         ensures fault { IfErr result (λ fault. rest_of self.old ≡ Err fault) }
     {
-        match next_piece(self.bytes, self.at, self.progress, &mut self.unmatched) {
+        match next_piece(
+            self.language,
+            self.bytes,
+            self.at,
+            self.progress,
+            &mut self.unmatched,
+        ) {
             Piece::Blank(len) => {
                 self.at += len;
                 self.space = true;
@@ -158,7 +164,7 @@ impl<'a> Lexer<'a> {
     fn end_line(&mut self) -> u32
         requires walk { IsWalk self.old }
         requires left { self.old.at < length self.old.cursor }
-        requires new_line { piece_at self.old.progress (drop self.old.at self.old.bytes.now)
+        requires new_line { piece_at self.old.language self.old.progress (drop self.old.at self.old.bytes.now)
             ≡ Piece.NewLine }
         ensures { Gives self.old (Step.LineEnd result) self.new }
     {
@@ -176,7 +182,7 @@ impl<'a> Lexer<'a> {
         requires left { self.old.at < length self.old.cursor }
         requires some { 1 ≤ len }
         requires fits { self.old.at + len ≤ length self.old.cursor }
-        requires lexeme { piece_at self.old.progress (drop self.old.at self.old.bytes.now)
+        requires lexeme { piece_at self.old.language self.old.progress (drop self.old.at self.old.bytes.now)
             ≡ Piece.Lexeme kind len }
         ensures { Gives self.old (Step.Token result) self.new }
     {

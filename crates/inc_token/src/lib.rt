@@ -14,7 +14,7 @@ mod pieces;
 
 pub use blanking::blank;
 pub use classes::kind_of;
-pub use kinds::{IncludeName, Kind, Language};
+pub use kinds::{IncludeName, Kind};
 pub use line_tokens::{lex_end, lex_lines, lex_token};
 pub use lines::{
     LexFault, LineSketch, Lines, Operand, Prefix, Stretch, TextLines, TextRun, Token, include_name,

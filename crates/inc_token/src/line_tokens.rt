@@ -4,10 +4,9 @@ ghost use Rattle.inc_token.specs.LineWalk.{lines_at, spaced_token, tokens_of_lin
 ghost use Rattle.inc_token.specs.TokenLines.{TokenLine};
 ghost use Rattle.inc_token.specs.Views.{seen};
 
-use crate::kinds::Language;
 use crate::lexing::{Lexer, Step};
 use crate::lines::{Token, lent};
-use inc_text::Text;
+use inc_text::{Language, Text};
 use std::alloc::AllocError;
 
 /// Adds the tokens of so many lines to a list, the first of which begins here. Where they are wanted spaced, the first token of each

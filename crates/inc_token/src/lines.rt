@@ -9,10 +9,10 @@ ghost use Rattle.inc_token.specs.declared.lines.LexFault.TheVariants.{NoMemory};
 mod fronts;
 mod sketches;
 
-use crate::kinds::{IncludeName, Kind, Language};
+use crate::kinds::{IncludeName, Kind};
 use crate::lexing::{PlacedToken, lex_into};
 pub use fronts::{LineSketch, Operand, Prefix, TextRun};
-use inc_text::Text;
+use inc_text::{Language, Text};
 pub use sketches::{Stretch, TextLines, line_prefix, text_lines};
 use std::alloc::{AllocError, AllocFailed, Global};
 use std::marker::Model;

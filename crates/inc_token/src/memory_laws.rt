@@ -2,7 +2,7 @@
 ghost use Rattle.std.specs.Prelude.{◌≢◌, List, IfErr};
 ghost use Rattle.inc_text.specs.PhaseText.{Cell};
 ghost use Rattle.inc_token.specs.TokenLines.{token_lines};
-ghost use Rattle.inc_token.specs.declared.kinds.Language.{Language};
+ghost use Rattle.inc_text.specs.declared.languages.Language.{Language};
 ghost use Rattle.inc_token.specs.declared.lines.LexFault.TheVariants.{NoMemory};
 
 /// No text is refused because memory ran out: `lex` says so only where memory runs out.

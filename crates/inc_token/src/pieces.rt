@@ -18,6 +18,7 @@ mod skipping;
 mod tokens;
 
 use crate::kinds::Kind;
+use inc_text::Language;
 pub use literals::Unmatched;
 pub use skipping::{Skipped, skip_line};
 
@@ -102,15 +103,21 @@ pub fn is_single_hash(text: &[u8], at: usize) -> bool
 
 /// The same as `next_piece`, with the tests first that pass most often.
 #[inline(always)]
-fn scanned(text: &[u8], at: usize, progress: Progress, unmatched: &mut Unmatched) -> Piece
+fn scanned(
+    language: Language,
+    text: &[u8],
+    at: usize,
+    progress: Progress,
+    unmatched: &mut Unmatched,
+) -> Piece
     requires within { at < length text.now }
     requires unmatched { AreUnmatched unmatched.old at text.now }
-    ensures piece { result ≡ piece_behind_blanks progress (drop at text.now) }
+    ensures piece { result ≡ piece_behind_blanks language progress (drop at text.now) }
     ensures unmatched { AreUnmatched unmatched.new at text.now }
 {
     let first = text[at];
     if identifiers::is_part(first) {
-        tokens::word(text, at)
+        tokens::word(language, text, at)
     } else if first == b'\n' {
         Piece::NewLine
     } else if first == b'/' && stands_at(text, at + 1, b'*') {
@@ -118,29 +125,35 @@ fn scanned(text: &[u8], at: usize, progress: Progress, unmatched: &mut Unmatched
     } else if first == b'/' && stands_at(text, at + 1, b'/') {
         comments::line(text, at)
     } else {
-        tokens::mark(text, at, progress, unmatched)
+        tokens::mark(language, text, at, progress, unmatched)
     }
 }
 
 /// What is at a place of a walk where no white space of one byte is, by what the walk knows of the quotes.
 #[inline(always)]
-pub fn next_piece(text: &[u8], at: usize, progress: Progress, unmatched: &mut Unmatched) -> Piece
+pub fn next_piece(
+    language: Language,
+    text: &[u8],
+    at: usize,
+    progress: Progress,
+    unmatched: &mut Unmatched,
+) -> Piece
     requires left { at < length text.now }
     requires bare { is_blank (slice_index text.now at) ≡ false }
     requires unmatched { AreUnmatched unmatched.old at text.now }
-    ensures piece { result ≡ piece_at progress (drop at text.now) }
+    ensures piece { result ≡ piece_at language progress (drop at text.now) }
     ensures unmatched { AreUnmatched unmatched.new at text.now }
 {
-    scanned(text, at, progress, unmatched)
+    scanned(language, text, at, progress, unmatched)
 }
 
 /// What is at a place where no white space of one byte is.
 #[inline(always)]
-pub fn piece_at(text: &[u8], at: usize, progress: Progress) -> Piece
+pub fn piece_at(language: Language, text: &[u8], at: usize, progress: Progress) -> Piece
     requires left { at < length text.now }
     requires bare { is_blank (slice_index text.now at) ≡ false }
-    ensures { result ≡ piece_at progress (drop at text.now) }
+    ensures { result ≡ piece_at language progress (drop at text.now) }
 {
     let mut unmatched = Unmatched::none();
-    next_piece(text, at, progress, &mut unmatched)
+    next_piece(language, text, at, progress, &mut unmatched)
 }

@@ -6,7 +6,7 @@ ghost use Rattle.std.specs.List.Sorted.{IsStrictlyIncreasing};
 use inc_cut::Step;
 use inc_graph::{Cost, EdgeId, Fixed, Graph, LentMark, Mark, Setting};
 use inc_lookup::{DirectiveId, FileId, HeldFiles, Project};
-use inc_token::Language;
+use inc_text::Language;
 use std::alloc::Global;
 use tests_parts::{Stop, directive_of, file_of, number, split_word};
 

@@ -9,8 +9,8 @@ use inc_directive::{DirectiveKind, LineKind, classify};
 use inc_expand::{Budget, Place};
 use inc_lookup::Project;
 use inc_macro::Macros;
-use inc_text::splice_owned;
-use inc_token::{Language, Lines, Token, lex};
+use inc_text::{Language, splice_owned};
+use inc_token::{Lines, Token, lex};
 use itoa::Buffer;
 use std::alloc::Global;
 use std::process::ExitCode;
@@ -25,7 +25,7 @@ fn main(rt: HostRuntime) -> ExitCode {
 
 fn run(rt: &HostRuntime) -> Result<(), Stop> {
     let alloc = rt.alloc();
-    let Ok(text) = splice_owned(alloc, read_input(rt)?) else {
+    let Ok(text) = splice_owned(alloc, read_input(rt)?, Language::C17) else {
         return Err(Stop);
     };
     let Ok(lines) = lex(alloc, &text, Language::C17) else {

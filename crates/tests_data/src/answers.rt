@@ -5,6 +5,7 @@
 //! | `text`, `length` | a source | its text after phases 1 and 2; how long that is |
 //! | `places` | a source | of each byte of its text the source bytes, from the first to the one after the last, and their line: as the text gives them, as a cursor does that goes forward, and those of the first byte as a cursor gives them that comes back |
 //! | `tokens` | a source | the tokens of each line: class and spelling, after `_` where white space is before it. Classes are `h` header name, `i` identifier, `n` number, `c` character constant, `s` string literal, `p` punctuator, `o` other |
+//! | `text of GNU C`, `tokens of GNU C`, `classes of GNU C` | as for C17 | the same of a source, or of bytes, of GNU C |
 //! | `number of tokens`, `places of tokens` | a source | of each line how many it has; where they are, as for `places`, and the line that it ends on |
 //! | `prefixes`, `shifted prefixes` | a source | of each directive its line, its name, and after `include` one token; the same of the source after 1, 2 .. 39 letters |
 //! | `kinds`, `directives` | a source | the kind of each line; of each directive its line and kind |
@@ -37,8 +38,8 @@ use crate::macros::{add_classes, add_macros};
 use crate::printing::{add_fault, add_printed};
 use crate::texts::{add_directives, add_gnu_directives, add_places, add_prefixes, add_shifted};
 use inc_directive::FileFault;
-use inc_text::{Text, TextFault, splice};
-use inc_token::{Language, Lines, lex};
+use inc_text::{Language, Text, TextFault, splice};
+use inc_token::{Lines, lex};
 use std::alloc::Global;
 use tests_parts::{Stop, add, add_number, refusing};
 
@@ -48,7 +49,8 @@ pub fn add_answer(alloc: Global, example: &str, out: &mut Vec<u8>) -> Result<(),
         return Err(Stop);
     };
     match kind {
-        "classes" => add_classes(alloc, example, out),
+        "classes" => add_classes(alloc, example, Language::C17, out),
+        "classes of GNU C" => add_classes(alloc, example, Language::Gnu, out),
         "macros" => add_macros(alloc, example, Language::C17, out),
         "macros of GNU C" => add_macros(alloc, example, Language::Gnu, out),
         "expansion" => add_expansions(alloc, example, &TEXT, out),
@@ -76,10 +78,20 @@ fn add_answer_of_source(
     if kind == "shifted prefixes" {
         return add_shifted(alloc, source, out);
     }
-    match splice(alloc, source) {
+    let language = language_of(kind);
+    match splice(alloc, source, language) {
         Ok(text) => add_answer_of_text(alloc, kind, source, &text, out),
         Err(TextFault::TooLong) => add(out, b"too long\n"),
         Err(TextFault::NoMemory) => Err(Stop),
+    }
+}
+
+/// The language of the source of an example of this kind.
+fn language_of(kind: &str) -> Language {
+    if kind.ends_with(" of GNU C") {
+        Language::Gnu
+    } else {
+        Language::C17
     }
 }
 
@@ -92,13 +104,13 @@ fn add_answer_of_text(
     out: &mut Vec<u8>,
 ) -> Result<(), Stop> {
     match kind {
-        "text" => add_printed(out, text.bytes()),
+        "text" | "text of GNU C" => add_printed(out, text.bytes()),
         "length" => add_number(out, text.bytes().len(), b"\n"),
         "places" => add_places(alloc, text, out),
         "prefixes" => add_prefixes(alloc, text, out),
         "directives" => add_directives(alloc, source, out),
         "directives of GNU C" => add_gnu_directives(alloc, source, out),
-        _ => match lex(alloc, text, Language::C17) {
+        _ => match lex(alloc, text, language_of(kind)) {
             Ok(lines) => add_answer_of_lines(alloc, kind, source, &lines, out),
             Err(fault) => add_fault(alloc, out, FileFault::from(fault)),
         },
@@ -114,7 +126,7 @@ fn add_answer_of_lines(
     out: &mut Vec<u8>,
 ) -> Result<(), Stop> {
     match kind {
-        "tokens" => add_tokens(lines, out),
+        "tokens" | "tokens of GNU C" => add_tokens(lines, out),
         "number of tokens" => add_token_count(lines, out),
         "places of tokens" => {
             let _refusing = refusing(alloc)?;

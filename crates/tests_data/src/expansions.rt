@@ -4,8 +4,8 @@ use crate::macros::{define, no_macros};
 use crate::printing::add_printed;
 use inc_expand::{Budget, Item, Mode, Place, expand};
 use inc_macro::Macros;
-use inc_text::splice;
-use inc_token::{Language, Lines, Token, lex};
+use inc_text::{Language, splice};
+use inc_token::{Lines, Token, lex};
 use std::alloc::Global;
 use tests_parts::{Stop, add, add_number, refusing};
 
@@ -76,7 +76,7 @@ fn add_expansion(
     out: &mut Vec<u8>,
 ) -> Result<(), Stop> {
     let macros = macros_of(alloc, example, asked.language)?;
-    let Ok(text) = splice(alloc, &text_of(alloc, lines)?) else {
+    let Ok(text) = splice(alloc, &text_of(alloc, lines)?, asked.language) else {
         return Err(Stop);
     };
     let Ok(lines) = lex(alloc, &text, asked.language) else {

@@ -4,7 +4,7 @@ use crate::lookups::{held_file, project_of};
 use crate::printing::add_printed;
 use inc_graph::{BlockerKind, Edge, EdgeId, Graph, Mark, Setting, TwoWayGraph};
 use inc_lookup::{HeldFiles, SourceFile};
-use inc_token::Language;
+use inc_text::Language;
 use std::alloc::Global;
 use tests_parts::{Stop, add, add_number, number, refusing, split_word};
 

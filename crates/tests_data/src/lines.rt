@@ -6,8 +6,8 @@ use crate::texts::add_place;
 use inc_directive::{
     DirectiveKind, FileFault, FileLines, LineKind, Plan, Target, balance, classify,
 };
-use inc_text::splice;
-use inc_token::{IncludeName, Kind, Language, Lines, Token};
+use inc_text::{Language, splice};
+use inc_token::{IncludeName, Kind, Lines, Token};
 use std::alloc::Global;
 use tests_parts::{Stop, add, add_number, refusing};
 
@@ -156,7 +156,7 @@ fn file_of(
     language: Language,
     removed: &[u32],
 ) -> Result<FileLines, Stop> {
-    let Ok(text) = splice(alloc, source) else {
+    let Ok(text) = splice(alloc, source, language) else {
         return Err(Stop);
     };
     match FileLines::new(alloc, text, language, removed) {

@@ -3,17 +3,22 @@ use crate::escapes::bytes_of;
 use crate::lines::class;
 use crate::printing::add_printed;
 use inc_macro::{DefineFault, Definition, Macros, Role};
-use inc_text::splice;
-use inc_token::{Language, kind_of, lex};
+use inc_text::{Language, splice};
+use inc_token::{kind_of, lex};
 use std::alloc::Global;
 use tests_parts::{Stop, add, add_number, refusing, split_word};
 
 /// Adds, for each line, the class in which the whole of its bytes lies.
-pub fn add_classes(alloc: Global, example: &str, out: &mut Vec<u8>) -> Result<(), Stop> {
+pub fn add_classes(
+    alloc: Global,
+    example: &str,
+    language: Language,
+    out: &mut Vec<u8>,
+) -> Result<(), Stop> {
     for line in example.split('\n').skip(1) {
         let bytes = bytes_of(alloc, line)?;
         let _refusing = refusing(alloc)?;
-        match kind_of(&bytes) {
+        match kind_of(language, &bytes) {
             Some(kind) => add(out, class(kind))?,
             None => add(out, b"none")?,
         }
@@ -88,10 +93,11 @@ pub fn define(
     macros: &mut Macros,
     text: &[u8],
 ) -> Result<Result<(), DefineFault>, Stop> {
-    let Ok(text) = splice(alloc, text) else {
+    let language = macros.language();
+    let Ok(text) = splice(alloc, text, language) else {
         return Err(Stop);
     };
-    let Ok(lines) = lex(alloc, &text, Language::C17) else {
+    let Ok(lines) = lex(alloc, &text, language) else {
         return Err(Stop);
     };
     if lines.count() == 0 {
@@ -106,10 +112,11 @@ fn undef(
     macros: &mut Macros,
     text: &[u8],
 ) -> Result<Result<bool, DefineFault>, Stop> {
-    let Ok(text) = splice(alloc, text) else {
+    let language = macros.language();
+    let Ok(text) = splice(alloc, text, language) else {
         return Err(Stop);
     };
-    let Ok(lines) = lex(alloc, &text, Language::C17) else {
+    let Ok(lines) = lex(alloc, &text, language) else {
         return Err(Stop);
     };
     let _refusing = refusing(alloc)?;
@@ -170,6 +177,10 @@ fn add_role(role: Role, out: &mut Vec<u8>) -> Result<(), Stop> {
         }
         Role::Comma(n) => {
             add(out, b"c")?;
+            add_number(out, n as usize, b":")
+        }
+        Role::Optional(n) => {
+            add(out, b"o")?;
             add_number(out, n as usize, b":")
         }
         Role::Nothing => add(out, b"-:"),

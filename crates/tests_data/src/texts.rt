@@ -2,8 +2,8 @@
 use crate::lines::add_kind;
 use crate::printing::{add_both, add_fault, add_printed};
 use inc_directive::{DirectiveKind, FileFault, FileLines, LineKind, read_lines};
-use inc_text::{Text, splice};
-use inc_token::{Language, Prefix, text_lines};
+use inc_text::{Language, Text, splice};
+use inc_token::{Prefix, text_lines};
 use std::alloc::Global;
 use tests_parts::{Stop, add, add_number, refusing};
 
@@ -88,7 +88,7 @@ pub fn add_shifted(alloc: Global, source: &[u8], out: &mut Vec<u8>) -> Result<()
     for len in 1..40 {
         let mut shifted = vec![in alloc; b'a'; len]?;
         shifted.extend_from_slice(source)?;
-        match splice(alloc, &shifted) {
+        match splice(alloc, &shifted, Language::C17) {
             Ok(text) => add_prefixes(alloc, &text, out)?,
             Err(_) => return Err(Stop),
         }
@@ -111,7 +111,7 @@ pub fn add_gnu_directives(alloc: Global, source: &[u8], out: &mut Vec<u8>) -> Re
 /// The directives of a source in a language, or its fault.
 fn directives_in(alloc: Global, source: &[u8], language: Language) -> Result<Vec<u8>, Stop> {
     let mut out = Vec::new(alloc);
-    let Ok(text) = splice(alloc, source) else {
+    let Ok(text) = splice(alloc, source, language) else {
         return Err(Stop);
     };
     match read_lines(alloc, text, language) {

@@ -3,8 +3,7 @@ use crate::projects::files_of;
 use crate::sinks::Sink;
 use inc_lookup::{FileId, HeldFiles, Project, Sources};
 use inc_report::{End, EndKind, Question, RunFault, run_why};
-use inc_text::{ReadFault, Writing};
-use inc_token::Language;
+use inc_text::{Language, ReadFault, Writing};
 use std::alloc::Global;
 use std::test::Fail;
 

@@ -3,8 +3,7 @@ use crate::projects::files_of;
 use crate::sinks::Sink;
 use inc_lookup::{HeldFiles, Project};
 use inc_report::{EndKind, Limits, Question, run_check, run_cut, run_why};
-use inc_text::{Reading, Writing};
-use inc_token::Language;
+use inc_text::{Language, Reading, Writing};
 use std::alloc::Global;
 use std::test::Fail;
 

@@ -3,7 +3,8 @@ ghost use Rattle.std.specs.Prelude.{◌≤◌, length};
 
 use inc_lookup::{DirectiveId, FileId, HeldFiles, NamedDir, Project};
 use inc_pp::{Missing, Outcome, PpRefusal, Settings, preprocess};
-use inc_token::{Kind, Language};
+use inc_text::Language;
+use inc_token::Kind;
 use std::alloc::Global;
 use tests_parts::{
     Stop, add, add_number, add_path, directive_of, file_of, files_of, project_of, refusing,

@@ -1,5 +1,6 @@
 //! What the include directives of one file are to the graph.
 ghost use Rattle.std.specs.Prelude.{◌≡◌, ◌<◌, ◌≤◌, ℕ, List, [], ◌∷◌, ◌++◌, length, map, filter, filter_map, option_map, option_to_list, IfOk, OnOk, None, Some};
+ghost use Rattle.inc_text.specs.PhaseText.{phase_text};
 ghost use Rattle.inc_text.specs.declared.devices.TheConstants.{LONGEST_FILE};
 ghost use Rattle.inc_directive.specs.Removal.{is_removable, stays};
 ghost use Rattle.inc_directive.specs.DirectiveViews.{seen_directive};
@@ -19,10 +20,10 @@ use crate::graphs::BlockerKind;
 use crate::header_names::{HeaderName, short};
 use crate::settings::Setting;
 use inc_directive::{
-    Directive, DirectiveKind, FileLines, LineKind, Target, read_lines, search_after,
+    Directive, DirectiveKind, FileFault, FileLines, LineKind, Target, read_lines, search_after,
 };
 use inc_lookup::{FileId, Form, Found, Project};
-use inc_text::{TextFault, splice_owned};
+use inc_text::{Text, TextFault, splice_owned};
 use inc_token::IncludeName;
 use std::alloc::{AllocError, Global};
 
@@ -33,8 +34,21 @@ pub(crate) enum FileState {
     Unread,
     /// What its include directives are to the graph.
     Read(Entries),
-    /// The physical line of its first fault.
-    Bad(u32),
+    /// Its first fault.
+    Bad(FileFault),
+}
+
+/// The text of a file with these bytes.
+fn text_of(alloc: Global, bytes: Vec<u8>, setting: &Setting<'_>) -> Result<Text, AllocError>
+    requires { length bytes.items ≤ LONGEST_FILE }
+    ensures { IfOk result (λ text. text ≡ phase_text setting.now.language bytes.items) }
+{
+    match splice_owned(alloc, bytes, setting.language()) {
+        Ok(text) => Ok(text),
+        // The bytes are not too many.
+        Err(TextFault::TooLong) => unreachable!(),
+        Err(TextFault::NoMemory) => Err(AllocError),
+    }
 }
 
 /// Reads a file with these bytes, as it was found: reaches the files to which its include directives lead, and adds those that are
@@ -60,11 +74,9 @@ pub(crate) fn read_file(
     ensures nexts { IfOk result (λ state. nexts.new.items
         ≡ bytes_nexts setting.now project.now at.now.file bytes.items) }
 {
-    let text = match splice_owned(alloc, bytes) {
+    let text = match text_of(alloc, bytes, setting) {
         Ok(text) => text,
-        // The bytes are not too many.
-        Err(TextFault::TooLong) => unreachable!(),
-        Err(TextFault::NoMemory) => return Err(AllocError),
+        Err(error) => return Err(error),
     };
     match read_lines(alloc, text, setting.language()) {
         Ok(found) => {
@@ -73,7 +85,7 @@ pub(crate) fn read_file(
             Ok(FileState::Read(entries))
         }
         Err(fault) => match fault.line() {
-            Some(line) => Ok(FileState::Bad(line)),
+            Some(_) => Ok(FileState::Bad(fault)),
             None => Err(AllocError),
         },
     }

@@ -26,10 +26,10 @@ pub(crate) fn first_bad(project: &Project<'_>, states: &FileStates) -> Option<Gr
     ensures within { IfSome result (λ refusal. IsRefusalWithin (length project.now.paths) refusal) }
 {
     for place in 0..states.len() {
-        if let FileState::Bad(line) = states.state(place) {
+        if let FileState::Bad(fault) = states.state(place) {
             return Some(GraphRefusal::BadFile {
                 file: file_at(project, place),
-                line: *line,
+                fault: *fault,
             });
         }
     }

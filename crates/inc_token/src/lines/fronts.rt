@@ -8,11 +8,11 @@ ghost use Rattle.inc_token.specs.TokenLines.{piece_at};
 ghost use Rattle.inc_text.specs.PhaseText.{longest_text};
 
 use super::{LexFault, is_hash, is_include_name};
-use crate::kinds::{Kind, Language};
+use crate::kinds::Kind;
 use crate::pieces::{
     Piece, Progress, Skipped, is_single_hash, line_feeds_at, piece_at, skip_blanks, skip_line,
 };
-use inc_text::{Cursor, Text};
+use inc_text::{Cursor, Language, Text};
 use std::marker::Model;
 
 /// The token after the name of an include directive (ISO/IEC 9899:2018, 6.10.2), its spelling lent from the text.
@@ -129,12 +129,12 @@ impl<'a> Walk<'a> {
     fn piece(&mut self, progress: Progress) -> Piece
         requires { IsPlaced self.old }
         ensures moved { HasMoved self.old self.new }
-        ensures piece { result ≡ piece_at progress (drop self.new.at self.new.bytes.now) }
+        ensures piece { result ≡ piece_at self.new.language progress (drop self.new.at self.new.bytes.now) }
         ensures ahead { (begun : Begun) → ahead_of begun self.new ≡ ahead_of begun self.old }
     {
         self.skip_blanks();
         if self.at < self.bytes.len() {
-            piece_at(self.bytes, self.at, progress)
+            piece_at(self.language, self.bytes, self.at, progress)
         } else {
             Piece::NewLine
         }
@@ -212,7 +212,7 @@ impl<'a> Walk<'a> {
         requires fits { self.old.at + len ≤ length self.old.cursor }
         requires some { 1 ≤ len }
         requires stands { (kind : Kind) ×
-            (piece_at Progress.AtStart (drop self.old.at self.old.bytes.now) ≡ Piece.Lexeme kind len) }
+            (piece_at self.old.language Progress.AtStart (drop self.old.at self.old.bytes.now) ≡ Piece.Lexeme kind len) }
         ensures moved { HasMoved self.old self.new }
         ensures front { ahead_of Nothing self.old ≡ ahead_of (begun_of self.old.cursor result) self.new }
         ensures hash { IsFrontIn (length self.old.cursor) result }
@@ -242,7 +242,7 @@ impl<'a> Walk<'a> {
         if begins_text(self.bytes[self.at]) {
             return Ok(Some(Front::Text));
         }
-        match piece_at(self.bytes, self.at, Progress::AtStart) {
+        match piece_at(self.language, self.bytes, self.at, Progress::AtStart) {
             Piece::Blank(len) => {
                 self.at += len;
                 Ok(None)

@@ -13,8 +13,7 @@ ghost use Rattle.inc_text.specs.PhaseText.{longest_text};
 
 use super::LexFault;
 use super::fronts::{LineSketch, Prefix, TextRun, Walk};
-use crate::kinds::Language;
-use inc_text::Text;
+use inc_text::{Language, Text};
 use std::marker::Model;
 
 /// Lines of text, perhaps none, and the line after them.

@@ -2,10 +2,11 @@
 ghost use Rattle.std.specs.Prelude.{◌≡◌, ◌+◌, ◌<◌, ◌≤◌, ◌||◌, ◌==◌, length, map, drop};
 ghost use Rattle.std.specs.List.{prefix_len};
 ghost use Rattle.std.specs.Simd.Lanes.{mask_l};
-ghost use Rattle.inc_token.specs.Spellings.{is_hex_digit, is_exponent_letter, begins_with_hex, universal_len, identifier_part, number_part};
+ghost use Rattle.inc_token.specs.Spellings.{begins_nondigit, is_hex_digit, is_exponent_letter, begins_with_hex, nonletter_len, universal_len, identifier_part, number_part};
 ghost use Rattle.inc_token.specs.Scanning.{is_row_byte, is_other_byte, row_len, begins_with_sign};
 ghost use Rattle.inc_text.specs.Ascii.{minus, plus};
 
+use inc_text::Language;
 use std::simd::prelude::*;
 
 /// Which bytes are digits or non-digits of one byte: a look-up costs less than the tests, and no wrong guess of a branch.
@@ -97,17 +98,37 @@ fn universal_name_len(text: &[u8], at: usize) -> usize
     }
 }
 
+/// Whether a byte is no letter and may begin a non-digit.
+#[inline(always)]
+pub(super) fn begins_nondigit(language: Language, b: u8) -> bool
+    ensures { result ≡ begins_nondigit language b }
+{
+    b == b'\\' || b == b'$' && language.is_gnu()
+}
+
+/// The length of the non-digit at a place that is no letter, 0 where there is none.
+fn nonletter_len(language: Language, text: &[u8], at: usize) -> usize
+    requires { at < length text.now }
+    ensures { result ≡ nonletter_len language (drop at text.now) }
+{
+    if text[at] == b'$' && language.is_gnu() {
+        1
+    } else {
+        universal_name_len(text, at)
+    }
+}
+
 /// The length of the digit or non-digit at a place, 0 where there is none.
 #[inline(always)]
-fn part_len(text: &[u8], at: usize) -> usize
+fn part_len(language: Language, text: &[u8], at: usize) -> usize
     requires { at < length text.now }
-    ensures { result ≡ identifier_part (drop at text.now) }
+    ensures { result ≡ identifier_part language (drop at text.now) }
 {
     let first = text[at];
     if is_part(first) {
         1
-    } else if first == b'\\' {
-        universal_name_len(text, at)
+    } else if begins_nondigit(language, first) {
+        nonletter_len(language, text, at)
     } else {
         0
     }
@@ -124,9 +145,9 @@ fn is_signed(text: &[u8], at: usize) -> bool
 
 /// The length of the part of a preprocessing number at a place, 0 where there is none.
 #[inline(always)]
-fn number_part_len(text: &[u8], at: usize) -> usize
+fn number_part_len(language: Language, text: &[u8], at: usize) -> usize
     requires { at < length text.now }
-    ensures { result ≡ number_part (drop at text.now) }
+    ensures { result ≡ number_part language (drop at text.now) }
 {
     let first = text[at];
     if first == b'.' {
@@ -134,7 +155,7 @@ fn number_part_len(text: &[u8], at: usize) -> usize
     } else if is_exponent(first) && is_signed(text, at + 1) {
         2
     } else {
-        part_len(text, at)
+        part_len(language, text, at)
     }
 }
 
@@ -186,29 +207,29 @@ fn skip_parts(text: &[u8], at: usize) -> usize
 }
 
 /// The length of the row of digits and non-digits at a place.
-pub(super) fn word_len(text: &[u8], at: usize) -> usize
+pub(super) fn word_len(language: Language, text: &[u8], at: usize) -> usize
     requires { at ≤ length text.now }
-    ensures { result ≡ row_len identifier_part 0 (drop at text.now) }
+    ensures { result ≡ row_len (identifier_part language) 0 (drop at text.now) }
 {
     let mut end = skip_parts(text, at);
-    while end < text.len() && text[end] == b'\\' {
-        let name = universal_name_len(text, end);
-        if name == 0 {
+    while end < text.len() && begins_nondigit(language, text[end]) {
+        let part = nonletter_len(language, text, end);
+        if part == 0 {
             break;
         }
-        end = skip_parts(text, end + name);
+        end = skip_parts(text, end + part);
     }
     end - at
 }
 
 /// The length of the row of parts of a number at a place.
-pub(super) fn digits_len(text: &[u8], at: usize) -> usize
+pub(super) fn digits_len(language: Language, text: &[u8], at: usize) -> usize
     requires { at ≤ length text.now }
-    ensures { result ≡ row_len number_part 0 (drop at text.now) }
+    ensures { result ≡ row_len (number_part language) 0 (drop at text.now) }
 {
     let mut end = at;
     while end < text.len() {
-        let part = number_part_len(text, end);
+        let part = number_part_len(language, text, end);
         if part == 0 {
             break;
         }

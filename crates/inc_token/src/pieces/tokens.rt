@@ -8,6 +8,7 @@ ghost use Rattle.inc_text.specs.Ascii.{apostrophe};
 use super::literals::Unmatched;
 use super::{Piece, Progress, identifiers, literals, punctuators};
 use crate::kinds::Kind;
+use inc_text::Language;
 
 /// A token of so many bytes, one byte where that is 0.
 fn lexeme_or_byte(kind: Kind, len: usize) -> Piece
@@ -58,24 +59,24 @@ fn may_quote(text: &[u8], at: usize) -> bool
 
 /// The token at a place where u, U or L is. Most are words, which the next byte shows.
 #[inline(always)]
-fn prefixed(text: &[u8], at: usize) -> Piece
+fn prefixed(language: Language, text: &[u8], at: usize) -> Piece
     requires { at < length text.now }
     ensures { let behind = drop (at + 1) text.now in
         result ≡ wide_token (quoted_len apostrophe 1 behind) (wide_str_len (slice_index text.now at) behind)
-        (row_len identifier_part 0 (drop at text.now)) }
+        (row_len (identifier_part language) 0 (drop at text.now)) }
 {
     if may_quote(text, at + 1) {
-        return literal_or_word(text, at);
+        return literal_or_word(language, text, at);
     }
-    Piece::Lexeme(Kind::Identifier, identifiers::word_len(text, at))
+    Piece::Lexeme(Kind::Identifier, identifiers::word_len(language, text, at))
 }
 
 /// The same, whatever the next byte is.
-fn literal_or_word(text: &[u8], at: usize) -> Piece
+fn literal_or_word(language: Language, text: &[u8], at: usize) -> Piece
     requires { at < length text.now }
     ensures { let behind = drop (at + 1) text.now in
         result ≡ wide_token (quoted_len apostrophe 1 behind) (wide_str_len (slice_index text.now at) behind)
-        (row_len identifier_part 0 (drop at text.now)) }
+        (row_len (identifier_part language) 0 (drop at text.now)) }
 {
     let char = literals::quoted(text, at, at + 1, b'\'');
     if char > 0 {
@@ -85,38 +86,38 @@ fn literal_or_word(text: &[u8], at: usize) -> Piece
     if str > 0 {
         return Piece::Lexeme(Kind::Str, str);
     }
-    Piece::Lexeme(Kind::Identifier, identifiers::word_len(text, at))
+    Piece::Lexeme(Kind::Identifier, identifiers::word_len(language, text, at))
 }
 
 /// The token at a place where a digit or a non-digit of one byte is.
 #[inline(always)]
-pub(super) fn word(text: &[u8], at: usize) -> Piece
+pub(super) fn word(language: Language, text: &[u8], at: usize) -> Piece
     requires { at < length text.now }
-    ensures { result ≡ word_token (drop at text.now) }
+    ensures { result ≡ word_token language (drop at text.now) }
 {
     let first = text[at];
     if first.is_ascii_digit() {
-        Piece::Lexeme(Kind::Number, identifiers::digits_len(text, at))
+        Piece::Lexeme(Kind::Number, identifiers::digits_len(language, text, at))
     } else if is_prefix_letter(first) {
-        prefixed(text, at)
+        prefixed(language, text, at)
     } else {
-        lexeme_or_byte(Kind::Identifier, identifiers::word_len(text, at))
+        lexeme_or_byte(Kind::Identifier, identifiers::word_len(language, text, at))
     }
 }
 
 /// The token at a place where no white space, LF, digit or non-digit of one byte is and no header name counts.
 #[inline(always)]
-fn plain_mark(text: &[u8], at: usize, unmatched: &mut Unmatched) -> Piece
+fn plain_mark(language: Language, text: &[u8], at: usize, unmatched: &mut Unmatched) -> Piece
     requires within { at < length text.now }
     requires unmatched { AreUnmatched unmatched.old at text.now }
-    ensures piece { result ≡ mark_token (drop at text.now) }
+    ensures piece { result ≡ mark_token language (drop at text.now) }
     ensures unmatched { AreUnmatched unmatched.new at text.now }
 {
     let first = text[at];
     if is_point_at(text, at) {
-        Piece::Lexeme(Kind::Number, identifiers::digits_len(text, at))
-    } else if first == b'\\' {
-        lexeme_or_byte(Kind::Identifier, identifiers::word_len(text, at))
+        Piece::Lexeme(Kind::Number, identifiers::digits_len(language, text, at))
+    } else if identifiers::begins_nondigit(language, first) {
+        lexeme_or_byte(Kind::Identifier, identifiers::word_len(language, text, at))
     } else if first == b'"' {
         lexeme_or_byte(Kind::Str, literals::str_len(text, at, unmatched))
     } else if first == b'\'' {
@@ -129,10 +130,16 @@ fn plain_mark(text: &[u8], at: usize, unmatched: &mut Unmatched) -> Piece
 /// The token at a place where no white space, LF, digit or non-digit of one byte is. Most of these bytes begin no token but
 /// themselves, so that test comes first.
 #[inline(always)]
-pub(super) fn mark(text: &[u8], at: usize, progress: Progress, unmatched: &mut Unmatched) -> Piece
+pub(super) fn mark(
+    language: Language,
+    text: &[u8],
+    at: usize,
+    progress: Progress,
+    unmatched: &mut Unmatched,
+) -> Piece
     requires within { at < length text.now }
     requires unmatched { AreUnmatched unmatched.old at text.now }
-    ensures piece { result ≡ mark_by progress (drop at text.now) }
+    ensures piece { result ≡ mark_by language progress (drop at text.now) }
     ensures unmatched { AreUnmatched unmatched.new at text.now }
 {
     if punctuators::is_single_byte(text[at]) {
@@ -144,5 +151,5 @@ pub(super) fn mark(text: &[u8], at: usize, progress: Progress, unmatched: &mut U
             return Piece::Lexeme(Kind::HeaderName, name);
         }
     }
-    plain_mark(text, at, unmatched)
+    plain_mark(language, text, at, unmatched)
 }

@@ -7,4 +7,5 @@ pub returns : goal.returns
 returns c =
     let one = c.in_ok-arg.ensures.shape c.files.ensures.local ∙ ap (with_rule (app_of c.args.command)) c.files.ensures.rule in
     let two = c.in_ok-arg-2.ensures.shape c.null.ensures.local ∙ ap₂ with_rule one c.null.ensures.rule in
-    IfOk-weaker c.arg-3.result _ _ (λ r h. h.shape c.repeated_option.ensures.local ∙ ap₂ with_rule two c.repeated_option.ensures.rule) c.arg-3.ensures
+    let three = c.in_ok-arg-3.ensures.shape c.repeated_option.ensures.local ∙ ap₂ with_rule two c.repeated_option.ensures.rule in
+    IfOk-weaker c.arg-4.result _ _ (λ r h. h.shape c.flag.ensures.local ∙ ap₂ with_rule three c.flag.ensures.rule) c.arg-4.ensures

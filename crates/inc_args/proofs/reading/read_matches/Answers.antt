@@ -4,11 +4,11 @@ use Rattle.inc_args.specs.Meaning.{Asked, Languages, Meaning, meaning_of}
 use Rattle.inc_args.proofs.Rows.{both_parts}
 use Rattle.inc_args.proofs.reading.read_matches.Goals as goal
 
-whole : Asked → Languages → Bool → Meaning
-whole asked languages quiet = record { asked = asked; languages = languages; is_quiet = quiet }
+whole : Asked → Languages → (quiet follows : Bool) → Meaning
+whole asked languages quiet follows = record { asked = asked; languages = languages; is_quiet = quiet; follows = follows }
 
-all : (a b : Asked) (l m : Languages) (q r : Bool) → a ≡ b → l ≡ m → q ≡ r → whole a l q ≡ whole b m r
-all a b l m q r asked languages quiet = rw (asked, languages, quiet) refl
+all : (a b : Asked) (l m : Languages) (q r f h : Bool) → a ≡ b → l ≡ m → q ≡ r → f ≡ h → whole a l q f ≡ whole b m r h
+all a b l m q r f h asked languages quiet follows = rw (asked, languages, quiet, follows) refl
 
 pub returns-in_ok-read_request-in-Some : goal.returns-in_ok-read_request-in-Some
 unfolding whole
@@ -16,5 +16,5 @@ returns-in_ok-read_request-in-Some c =
     let outer = rows_of (found_of c.args.matches.now) in
     let inner = rows_of (found_of c.in-Some.inner.now) in
     let sub : subcommand_rows_of c.args.matches.now ≡ Some (c.in-Some.name.now, inner) = both_parts _ _ _ _ c.in-Some.ensures.name c.in-Some.ensures.rows in
-    all _ _ _ _ _ _ c.in_ok-read_request-in-Some.ensures c.read_languages.ensures c.is_given.ensures
+    all _ _ _ _ _ _ _ _ c.in_ok-read_request-in-Some.ensures c.read_languages.ensures c.is_given.ensures c.is_given-in-Some.ensures
     ∙ sym (ap (meaning_of outer) sub)

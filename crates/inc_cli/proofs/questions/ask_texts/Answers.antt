@@ -1,7 +1,7 @@
 use Rattle.std.proofs.Common.{◌≡◌, ◌∙◌, ℕ, Bool, Ok, Err, None, Result, List, [], false, IfErr, ap, refl, rules, subst}
 use Rattle.std.specs.Io.KnownBytes.{Keeps}
 use Rattle.std.specs.Prelude.{unwrap_or}
-use Rattle.inc_token.specs.declared.kinds.Language.{Language}
+use Rattle.inc_text.specs.declared.languages.Language.{Language}
 use Rattle.inc_lookup.specs.Projects.{Layout}
 use Rattle.inc_graph.specs.Marks.{Cost}
 use Rattle.inc_report.specs.Printed.{Printed}
@@ -25,6 +25,7 @@ use Rattle.inc_inputs.specs.Texts.{AreCosts, Texts, listed_layout}
 use Rattle.inc_inputs.specs.Steps.{Step, comes_to, then}
 use Rattle.inc_cli.specs.Views.{output_of, seen_command, seen_end, texts_of}
 use Rattle.inc_inputs.specs.Views.{end_paths_in, places_in}
+use Rattle.inc_inputs.specs.declared.failures.Hindrance.{Hindrance}
 use Rattle.inc_cli.proofs.Names.{named_or}
 use Rattle.inc_cli.proofs.RunLemmas.{run_came, run_came_err, run_here, run_judged, run_judged_err}
 use Rattle.inc_cli.proofs.questions.ask_texts.Goals as goal
@@ -54,23 +55,24 @@ with_costs language has_headers q l t costs = then (comes_to (listed_layout (pat
 
 -- what is answered of what the code asks is answered of what is asked
 made : {S : Type 0} (gives : Gives S) (P : Asked → (old new : S) → Printed → Type 0) (command : Command) (q : Question) (a b : Asked) (old : S) (out : Output)
-    (result : Result End RunFault) (answer : Result Answer Report)
+    (result : Result End RunFault) (hindrance : Hindrance) (answer : Result Answer Report)
     → Prints (P a old) (λ new. FailsAt (listed gives a.paths) old new a.layout a.question) out result → a ≡ b
-    → answer ≡ ended (header_notes b.layout q) b.paths (unwrap_or (certificate_of command) []) result
+    → answer ≡ ended (header_notes b.layout q) b.paths (unwrap_or (certificate_of command) []) hindrance result
     → (certificate_of command ≡ None → IfErr result (λ fault. is_of_certificate fault ≡ false)) → IsAnswered gives P command q b old out answer
-made gives P command q a b old out result answer prints same told certificate = record {
+made gives P command q a b old out result hindrance answer prints same told certificate = record {
   result = result;
+  hindrance = hindrance;
   is = told;
   certificate = certificate;
   prints = subst (λ k. Prints (P k old) (λ new. FailsAt (listed gives k.paths) old new k.layout k.question) out result) same prints;
 }
 
 -- how it ended, by what the code knows of it
-told_as : (answer : Result Answer Report) (result : Result End RunFault) (notes said : List ℕ) (lent paths : List (List ℕ)) (word name : List ℕ)
-    → answer ≡ ended notes lent word result → notes ≡ said → lent ≡ paths → word ≡ name → answer ≡ ended said paths name result
-told_as answer result notes said lent paths word name is noted listed named =
-    is ∙ ap (λ (ns : List ℕ). ended ns lent word result) noted ∙ ap (λ (ps : List (List ℕ)). ended said ps word result) listed
-    ∙ ap (λ (w : List ℕ). ended said paths w result) named
+told_as : (answer : Result Answer Report) (hindrance : Hindrance) (result : Result End RunFault) (notes said : List ℕ) (lent paths : List (List ℕ)) (word name : List ℕ)
+    → answer ≡ ended notes lent word hindrance result → notes ≡ said → lent ≡ paths → word ≡ name → answer ≡ ended said paths name hindrance result
+told_as answer hindrance result notes said lent paths word name is noted listed named =
+    is ∙ ap (λ (ns : List ℕ). ended ns lent word hindrance result) noted ∙ ap (λ (ps : List (List ℕ)). ended said ps word hindrance result) listed
+    ∙ ap (λ (w : List ℕ). ended said paths w hindrance result) named
 
 pub returns-in-Err-clause-printed : goal.returns-in-Err-clause-printed
 returns-in-Err-clause-printed g c not =
@@ -198,7 +200,7 @@ returns-clause-printed g c not =
     let name : c.unwrap_or-certificate.result.now ≡ unwrap_or (certificate_of command) [] =
     named_or c.certificate.result c.unwrap_or-certificate.result _ [] c.unwrap_or-certificate.ensures refl ∙ ap (λ o. unwrap_or o []) c.certificate.ensures in
     let told =
-    told_as _ c.answer-ended.result.0 _ (header_notes layout q) _ (paths_in q.files t.list) _ (unwrap_or (certificate_of command) []) (c.end_of.ensures not) c.in-Ok-asked_ends.ensures.notes
+    told_as _ c.get-hindrance.result c.answer-ended.result.0 _ (header_notes layout q) _ (paths_in q.files t.list) _ (unwrap_or (certificate_of command) []) (c.end_of-told.ensures not) c.in-Ok-asked_ends.ensures.notes
     (search rules) name
     in
     run_judged (AreCosts (unwrap_or l.costs []) t.costs) (with_costs language (has_headers (seen_command c.args.command)) q l t) _ _ _ _ costs c.in-Ok.ensures.costs
@@ -206,7 +208,7 @@ returns-clause-printed g c not =
     (run_came (asked_ends layout q) (with_ends language (has_headers (seen_command c.args.command)) q l t costs layout) _ _ _ _ ends there
     (run_came (places_of layout q l t.without t.fixed) (with_places language (has_headers (seen_command c.args.command)) q t costs layout ends) _ _ _ _ places placed
     (run_here (asked_for language (has_headers (seen_command c.args.command)) q t costs layout ends places) _ _ _ _
-    (made gives P command q _ (asked_for language (has_headers (seen_command c.args.command)) q t costs layout ends places) _ out _ _ c.answer-ended.ensures.printed (search rules) told c.answer-ended.ensures.certificate)))))
+    (made gives P command q _ (asked_for language (has_headers (seen_command c.args.command)) q t costs layout ends places) _ out _ c.get-hindrance.result _ c.answer-ended.ensures.printed (search rules) told c.answer-ended.ensures.certificate)))))
 
 pub returns-clause-promised : goal.returns-clause-promised
 returns-clause-promised g c not =
@@ -228,7 +230,7 @@ returns-clause-promised g c not =
     let name : c.unwrap_or-certificate.result.now ≡ unwrap_or (certificate_of command) [] =
     named_or c.certificate.result c.unwrap_or-certificate.result _ [] c.unwrap_or-certificate.ensures refl ∙ ap (λ o. unwrap_or o []) c.certificate.ensures in
     let told =
-    told_as _ c.answer-ended.result.0 _ (header_notes layout q) _ (paths_in q.files t.list) _ (unwrap_or (certificate_of command) []) (c.end_of.ensures not) c.in-Ok-asked_ends.ensures.notes
+    told_as _ c.get-hindrance.result c.answer-ended.result.0 _ (header_notes layout q) _ (paths_in q.files t.list) _ (unwrap_or (certificate_of command) []) (c.end_of-told.ensures not) c.in-Ok-asked_ends.ensures.notes
     (search rules) name
     in
     run_judged (AreCosts (unwrap_or l.costs []) t.costs) (with_costs language (has_headers (seen_command c.args.command)) q l t) _ _ _ _ costs c.in-Ok.ensures.costs
@@ -236,4 +238,4 @@ returns-clause-promised g c not =
     (run_came (asked_ends layout q) (with_ends language (has_headers (seen_command c.args.command)) q l t costs layout) _ _ _ _ ends there
     (run_came (places_of layout q l t.without t.fixed) (with_places language (has_headers (seen_command c.args.command)) q t costs layout ends) _ _ _ _ places placed
     (run_here (asked_for language (has_headers (seen_command c.args.command)) q t costs layout ends places) _ _ _ _
-    (made gives P command q _ (asked_for language (has_headers (seen_command c.args.command)) q t costs layout ends places) _ out _ _ c.answer-ended.ensures.promised (search rules) told c.answer-ended.ensures.certificate)))))
+    (made gives P command q _ (asked_for language (has_headers (seen_command c.args.command)) q t costs layout ends places) _ out _ c.get-hindrance.result _ c.answer-ended.ensures.promised (search rules) told c.answer-ended.ensures.certificate)))))

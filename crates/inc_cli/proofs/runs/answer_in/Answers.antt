@@ -14,7 +14,7 @@ returns-in-Ok-form_of-clause-answered g c not =
     let language = c.args.setup.now.language in
     let out = output_of (g.O.ByteSink.written c.args.out) (g.O.ByteSink.written c.ask-in-Ok-form_of.result.1) (g.O.ByteSink.has_failed c.ask-in-Ok-form_of.result.1) in
     let answer = seen_end c.ask-in-Ok-form_of.result.0 in
-    subst (λ r. IsAnswerTo gives o language (seen_request r) c.args.inputs out answer) (sym c.in-Cut.is)
+    subst (λ r. IsAnswerTo gives g.I.Inputs.puts o language (seen_request r) c.args.inputs out answer) (sym c.in-Cut.is)
     (subst
     (λ (command : Result Command Report). Follows (λ k. IsAsked gives o language k (seen_question c.in-Cut.question) (seen_limits c.in-Cut.limits)) command c.args.inputs out answer)
     c.in-Ok-form_of.ensures (c.ask-in-Ok-form_of.ensures.printed not))
@@ -35,7 +35,7 @@ pub returns-in-Check-clause-answered : goal.returns-in-Check-clause-answered
 returns-in-Check-clause-answered g c not =
     let o : Opens g.row.I.Denot g.row.I-Stream.Denot = record { opens = g.I.Inputs.opens; left = g.I.Stream.ByteSource.left } in
     let out = output_of (g.O.ByteSink.written c.args.out) (g.O.ByteSink.written c.ask-in-Check.result.1) (g.O.ByteSink.has_failed c.ask-in-Check.result.1) in
-    subst (λ r. IsAnswerTo g.I.Inputs.gives o c.args.setup.now.language (seen_request r) c.args.inputs out (seen_end c.ask-in-Check.result.0)) (sym c.in-Check.is)
+    subst (λ r. IsAnswerTo g.I.Inputs.gives g.I.Inputs.puts o c.args.setup.now.language (seen_request r) c.args.inputs out (seen_end c.ask-in-Check.result.0)) (sym c.in-Check.is)
     (c.ask-in-Check.ensures.printed not)
 
 pub returns-in-Check-clause-promised : goal.returns-in-Check-clause-promised

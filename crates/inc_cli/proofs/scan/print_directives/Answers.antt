@@ -3,8 +3,9 @@ use Rattle.inc_lookup.specs.Views.{seen_answer}
 use Rattle.inc_report.specs.ScanText.{scan}
 use Rattle.inc_report.specs.Writing.{Writes}
 use Rattle.inc_cli.specs.Outputs as outputs
-use Rattle.inc_cli.specs.Scans.{IsScanOf, scanned_name}
+use Rattle.inc_cli.specs.Scans.{IsScanOf, scanned_name, scanned_title}
 use Rattle.inc_cli.specs.Views.{output_of, seen_end}
+use Rattle.inc_inputs.specs.declared.failures.Hindrance.TheVariants.{Other}
 use Rattle.inc_cli.proofs.Names.{named_or}
 use Rattle.inc_cli.proofs.scan.print_directives.Goals as goal
 
@@ -19,6 +20,11 @@ returns-in-Ok g c not =
     let bytes = c.in-Ok.source.items in
     let name : c.as_bytes-name.result.now ≡ scanned_name path =
     c.as_bytes-name.ensures.value ∙ named_or c.args.path c.unwrap_or.result _ (codes "-") c.unwrap_or.ensures refl in
-    let writes = subst (λ n. Writes (λ p. p ≡ scan language n bytes) before after failed ended) name c.run_scan_owned-ended.ensures.written in
+    let title : c.as_bytes-title.result.now ≡ scanned_title path =
+    c.as_bytes-title.ensures.value ∙ named_or c.args.path c.unwrap_or-2.result _ (codes "<stdin>") c.unwrap_or-2.ensures refl in
+    let writes =
+    subst (λ t. Writes (λ p. p ≡ scan language (scanned_name path) t bytes) before after failed ended) title
+    (subst (λ n. Writes (λ p. p ≡ scan language n c.as_bytes-title.result.now bytes) before after failed ended) name c.run_scan_owned-ended.ensures.written)
+    in
     subst (λ s. IsScanOf language path (seen_answer s) (output_of before after failed) (seen_end c.end_of.result)) (sym c.in-Ok.is)
-    (ended, c.end_of.ensures not ∙ ap (λ (n : List ℕ). outputs.ended n [] [] ended) c.new.ensures.items, writes, c.run_scan_owned-ended.ensures.own)
+    (ended, c.end_of.ensures not ∙ ap (λ (n : List ℕ). outputs.ended n [] [] Other ended) c.new.ensures.items, writes, c.run_scan_owned-ended.ensures.own)

@@ -15,7 +15,7 @@ loop-i-init c =
     = ap (plain_tokens (argument_values c.args.sets.now c.args.args.now)) (drop_all c.body_len-i.result (elements_of c.args.definition.now) (omega (arith, c.body_len-i.ensures, places-of c.args.definition.now))) in
     let none = ap length tokens in (
       omega (arith, c.body_len-i.ensures),
-      rw c.expect.ensures (subst (λ ts. IsLaid c.args.sets.now c.args.sets.now c.args.line c.args.names ts c.args.list.now c.args.list.now) (sym tokens) (laid-none c.args.sets.now c.args.line c.args.names c.args.list.now c.requires.list)),
+      rw c.expect.ensures (subst (λ ts. IsLaid c.args.rule c.args.sets.now c.args.sets.now c.args.line c.args.names ts c.args.list.now c.args.list.now) (sym tokens) (laid-none c.args.rule c.args.sets.now c.args.line c.args.names c.args.list.now c.requires.list)),
       omega (arith, none),
     )
 
@@ -25,9 +25,9 @@ put_place-requires-clause-args c = known_in-wider _ _ c.loop-i.invariant.1.keeps
 pub loop-i-preserved : goal.loop-i-preserved
 loop-i-preserved c = (
   omega (arith, c.loop-i.invariant.0),
-  laid-at c.args.sets.now c.loop-i.sets c.args.line c.args.names c.args.args.now (elements_of c.args.definition.now) (c.loop-i.i - 1) c.loop-i.i _ c.args.list.now c.loop-i.list c.args.units.now c.loop-i.units
+  laid-at c.args.rule c.args.sets.now c.loop-i.sets c.args.line c.args.names c.args.args.now (elements_of c.args.definition.now) (c.loop-i.i - 1) c.loop-i.i _ c.args.list.now c.loop-i.list c.args.units.now c.loop-i.units
       c.requires.names c.requires.args c.element_at-element.ensures (omega (arith, c.loop-i-test.true)) c.loop-i.invariant.1 c.loop-i.invariant.2 c.put_place.new.sets c.put_place.new.list c.in_ok-put_place.ensures.laid,
-  paid-at c.args.sets.now c.loop-i.sets c.args.line c.args.names c.args.args.now (elements_of c.args.definition.now) (c.loop-i.i - 1) c.loop-i.i _ c.args.list.now c.loop-i.list c.args.units.now c.loop-i.units
+  paid-at c.args.rule c.args.sets.now c.loop-i.sets c.args.line c.args.names c.args.args.now (elements_of c.args.definition.now) (c.loop-i.i - 1) c.loop-i.i _ c.args.list.now c.loop-i.list c.args.units.now c.loop-i.units
       c.requires.names c.requires.args c.element_at-element.ensures (omega (arith, c.loop-i-test.true)) c.loop-i.invariant.1 c.loop-i.invariant.2 c.put_place.new.units c.in_ok-put_place.ensures.paid,
 )
 
@@ -37,6 +37,6 @@ returns-in_err-put_place-clause-fault c =
     rw (p.1, p.2) (λ other.
     let q = c.in_err-put_place.ensures.fault other in (
       q.0,
-      over-at c.args.sets.now c.loop-i.sets c.args.line c.args.names c.args.args.now (elements_of c.args.definition.now) (c.loop-i.i - 1) c.loop-i.i _ c.args.list.now c.loop-i.list c.args.units.now c.loop-i.units
+      over-at c.args.rule c.args.sets.now c.loop-i.sets c.args.line c.args.names c.args.args.now (elements_of c.args.definition.now) (c.loop-i.i - 1) c.loop-i.i _ c.args.list.now c.loop-i.list c.args.units.now c.loop-i.units
           c.requires.names c.requires.args c.element_at-element.ensures (omega (arith, c.loop-i-test.true)) c.loop-i.invariant.1 c.loop-i.invariant.2 q.1,
     ))

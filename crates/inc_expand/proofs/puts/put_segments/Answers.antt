@@ -8,6 +8,6 @@ put_segment-requires-clause-tokens c = known-segment-there c.args.sets.now c.loo
 pub loop-i-preserved : goal.loop-i-preserved
 loop-i-preserved c = (
   omega (arith, c.loop-i.invariant.0),
-  put-segment-at c.args.sets.now c.loop-i.sets c.put_segment.new.sets c.args.line c.args.names c.args.segments.now (c.loop-i.i - 1) c.loop-i.i _ c.args.list.now c.loop-i.list c.put_segment.new.list
+  put-segment-at c.args.rule c.args.sets.now c.loop-i.sets c.put_segment.new.sets c.args.line c.args.names c.args.segments.now (c.loop-i.i - 1) c.loop-i.i _ c.args.list.now c.loop-i.list c.put_segment.new.list
       c.requires.names c.requires.tokens (omega (arith, c.loop-i.invariant.0, c.loop-i-test.true)) (omega (arith, c.loop-i-test.true)) c.loop-i.invariant.1 c.in_ok-put_segment.ensures.put,
 )

@@ -43,3 +43,9 @@ returns-in_ok-token-in-Word-clause-rest c es =
 
 pub returns-in-Glue-clause-known : goal.returns-in-Glue-clause-known
 returns-in-Glue-clause-known c = c.paste.ensures.known (size c.args.sets.now) c.requires.known
+
+pub operand-requires-in-Kept-clause-tokens : goal.operand-requires-in-Kept-clause-tokens
+operand-requires-in-Kept-clause-tokens c = c.expanded_at-in-Kept.ensures.known (size c.args.sets.now) c.requires.args
+
+pub returns-in_ok-placemarker-in-Empty-clause-known : goal.returns-in_ok-placemarker-in-Empty-clause-known
+returns-in_ok-placemarker-in-Empty-clause-known c = c.in_ok-placemarker-in-Empty.ensures.known (size c.args.sets.now) c.requires.known

@@ -4,7 +4,7 @@ use Rattle.inc_inputs.specs.PpTexts.{AreWords, Defined, defined_by}
 use Rattle.inc_inputs.specs.Reports.{IsListReport, list_report, report_of}
 use Rattle.inc_inputs.specs.Steps.{Comes, Step, comes_to, judged, reads, then}
 use Rattle.inc_inputs.specs.Views.{defined_in, seen_defined, seen_text}
-use Rattle.inc_token.specs.declared.kinds.Language.{Language}
+use Rattle.inc_text.specs.declared.languages.Language.{Language}
 use Rattle.inc_inputs.proofs.StepLemmas.{comes_err, comes_on, passed}
 use Rattle.inc_inputs.proofs.pp_texts.read_defined.Goals as goal
 

@@ -1,7 +1,7 @@
 use Rattle.std.proofs.Common.{ap, sym, ◌∙◌, option_map}
 use Rattle.inc_macro.specs.Tables.{table_of}
 use Rattle.inc_expand.specs.Places.{place_value}
-use Rattle.inc_pp.specs.Pragmas.{is_gnu}
+use Rattle.inc_text.specs.Languages.{is_gnu}
 use Rattle.inc_pp.proofs.OperatorSteps.{none-mapped, plain-done}
 use Rattle.inc_pp.proofs.expansions.put_expanded.Goals as goal
 

@@ -1,6 +1,6 @@
 use Rattle.std.proofs.Common.{ap, ap₂, sym, ◌∙◌, false, List, ◌++◌, Option, None, map, option_map, take}
 use Rattle.std.proofs.Math.Seq.{take-append_seam}
-use Rattle.inc_token.specs.declared.kinds.Language.{Language}
+use Rattle.inc_text.specs.declared.languages.Language.{Language}
 use Rattle.inc_token.specs.Views.{seen}
 use Rattle.inc_macro.specs.Tables.{table_of}
 use Rattle.inc_expand.specs.Expansion.{Place}

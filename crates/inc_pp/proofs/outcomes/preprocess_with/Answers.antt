@@ -1,6 +1,6 @@
 use Rattle.std.proofs.Common.{◌≡◌, ◌∙◌, ap, sym, subst, ℕ, List, Result, Ok, map}
 use Rattle.inc_text.specs.declared.devices.ReadFault.{ReadFault}
-use Rattle.inc_token.specs.declared.kinds.Language.{Language}
+use Rattle.inc_text.specs.declared.languages.Language.{Language}
 use Rattle.inc_lookup.specs.Given.{Given}
 use Rattle.inc_lookup.specs.Projects.{Layout}
 use Rattle.inc_lookup.specs.declared.projects.DirectiveId.{DirectiveId}

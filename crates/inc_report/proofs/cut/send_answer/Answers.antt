@@ -1,4 +1,4 @@
-use Rattle.std.proofs.Common.{refl, ap, inl, inr}
+use Rattle.std.proofs.Common.{refl, ap, inl, inr, ◌∙◌}
 use Rattle.inc_check.specs.Certificates.{certificate_of}
 use Rattle.inc_check.specs.Texts.{certificate_text}
 use Rattle.inc_report.specs.Fitting.{IsFit}
@@ -26,7 +26,7 @@ returns-in-Cut g c =
       answered_of (empty_notes c.args.project.now c.args.graph.now.missing)
           (certificate_text (certificate_of c.args.project.now c.args.graph.now c.in-Cut.edges.items c.in-Cut.chains)),
       inl (c.in-Cut.edges.items, c.in-Cut.chains, answer, fits, refl),
-      record { ends = ap (λ n. end_of n Answered) c.requires.notes; sent = sent },
+      record { ends = c.noted.ensures ∙ ap (λ n. end_of n Answered) c.requires.notes; sent = sent },
     )
 
 pub returns-in-Fixed : goal.returns-in-Fixed

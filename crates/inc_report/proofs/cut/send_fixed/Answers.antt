@@ -1,4 +1,4 @@
-use Rattle.std.proofs.Common.{refl, ap}
+use Rattle.std.proofs.Common.{refl, ap, ◌∙◌}
 use Rattle.std.specs.Prelude.{codes}
 use Rattle.inc_graph.proofs.Walks.{chain-within}
 use Rattle.inc_check.specs.Certificates.{marks_of}
@@ -17,5 +17,5 @@ returns g c =
     let sent = rw c.as_slice.ensures at c.send_list.ensures.sent in (
       negative_of (empty_notes c.args.project.now c.args.graph.now.missing) (list_text (codes "fixed") (marks_of c.args.project.now c.args.graph.now c.args.chain.now.edges)),
       (c.args.chain.now.edges, c.requires.chain, refl),
-      record { ends = ap (λ n. end_of n Negative) c.requires.notes; sent = sent },
+      record { ends = c.noted.ensures ∙ ap (λ n. end_of n Negative) c.requires.notes; sent = sent },
     )

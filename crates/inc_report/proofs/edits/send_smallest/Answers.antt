@@ -53,7 +53,7 @@ returns-in-Cut-clause-sent g c =
           ap (λ (cs : List Change). answered_of (empty_notes c.args.project.now graph.missing) (text_in c.args.form cs))
               (c.deref-in-Cut-2.ensures.value ∙ c.in_ok-changes-in-Cut.ensures listing laid fits ∙ ap (changes c.args.language listing) same),
         ),
-        record { ends = ap (λ n. end_of n Answered) c.in_ok-notes.ensures; sent = c.send_changes.ensures },
+        record { ends = c.noted.ensures ∙ ap (λ n. end_of n Answered) c.in_ok-notes.ensures; sent = c.send_changes.ensures },
       );
       nothing = tt;
     }

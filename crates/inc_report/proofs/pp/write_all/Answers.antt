@@ -22,8 +22,14 @@ returns-in_err-files-clause-written g c =
     let common : Common = record { layout = c.args.project.now; words = c.args.question.now.words; settings = c.args.question.now.settings; without = named_directives c.args.project.now c.args.question.now.without } in
     rw (p.1, p.2) (wrote-none g.S.Sources.gives c.args.sources.now common _ _ _ _ c.requires.sound)
 
+pub returns-in_err-notes-clause-written : goal.returns-in_err-notes-clause-written
+returns-in_err-notes-clause-written g c =
+    let p = err_from_is_err_and c.from_residual-in_err-notes.result c.from_residual-in_err-notes.ensures.1 in
+    let common : Common = record { layout = c.args.project.now; words = c.args.question.now.words; settings = c.args.question.now.settings; without = named_directives c.args.project.now c.args.question.now.without } in
+    rw (p.1, p.2) (wrote-none g.S.Sources.gives c.args.sources.now common _ _ _ _ c.requires.sound)
+
 pub returns-clause-written : goal.returns-clause-written
-returns-clause-written g c = rw (← c.question.view_is, ← c.in_ok-named.ensures, ← c.deref.ensures.value, ← c.in_ok-removed.ensures) c.write_each-end.ensures.written
+returns-clause-written g c = rw (← c.wanted_of.ensures, ← c.question.view_is, ← c.in_ok-named.ensures, ← c.deref.ensures.value, ← c.in_ok-removed.ensures) c.write_each-end.ensures.written
 
 pub returns-clause-unread : goal.returns-clause-unread
-returns-clause-unread g c = rw (← c.question.view_is, ← c.in_ok-named.ensures, ← c.deref.ensures.value, ← c.in_ok-removed.ensures) c.write_each-end.ensures.unread
+returns-clause-unread g c = rw (← c.wanted_of.ensures, ← c.question.view_is, ← c.in_ok-named.ensures, ← c.deref.ensures.value, ← c.in_ok-removed.ensures) c.write_each-end.ensures.unread

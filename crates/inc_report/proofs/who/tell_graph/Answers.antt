@@ -1,4 +1,4 @@
-use Rattle.std.proofs.Common.{refl, ap}
+use Rattle.std.proofs.Common.{refl, ap, ◌∙◌}
 use Rattle.inc_report.specs.Printed.{answered_of, end_of}
 use Rattle.inc_report.specs.WhoText.{who_notes}
 use Rattle.inc_report.specs.declared.outcome.EndKind.TheVariants.{Answered}
@@ -14,7 +14,7 @@ returns-clause-sent g c = record {
   text = (
     answered_of (who_notes c.args.project.now c.args.graph.now c.in_ok-reaching.reaching.left) _,
     (c.in_ok-reaching.reaching.left, c.in_ok-chains.chains.left, c.in_ok-reaching.ensures.all, c.in_ok-chains.ensures.all, refl),
-    record { ends = ap (λ n. end_of n Answered) c.in_ok-notes.ensures; sent = sends_then _ _ _ _ _ c.send_reaching.ensures c.send_ways.ensures },
+    record { ends = c.noted.ensures ∙ ap (λ n. end_of n Answered) c.in_ok-notes.ensures; sent = sends_then _ _ _ _ _ c.send_reaching.ensures c.send_ways.ensures },
   );
   nothing = tt;
 }

@@ -1,4 +1,4 @@
-use Rattle.std.proofs.Common.{Some, None, refl, ap, subst, sym}
+use Rattle.std.proofs.Common.{Some, None, refl, ap, subst, sym, ◌∙◌}
 use Rattle.inc_graph.specs.Chains.{IsShortestOrNone, AreChainsByLast}
 use Rattle.inc_graph.specs.IncludeGraph.{Graph}
 use Rattle.inc_report.specs.MissingNotes.{unreached_notes}
@@ -27,7 +27,7 @@ returns-clause-sent g c =
       text = (
         answered_of (unreached_notes c.args.project.now graph.missing) _,
         (None, chains.left, none, by_last, refl),
-        record { ends = ap (λ n. end_of n Answered) c.in_ok-notes.ensures; sent = c.send_unreached.ensures },
+        record { ends = c.noted.ensures ∙ ap (λ n. end_of n Answered) c.in_ok-notes.ensures; sent = c.send_unreached.ensures },
       );
       nothing = tt;
     }

@@ -2,7 +2,7 @@ use Rattle.std.proofs.Common.{subst, refl}
 use Rattle.std.proofs.lemmas.Result.{err_from_is_err_and}
 use Rattle.inc_expand.specs.Carriers.{carrier}
 use Rattle.inc_expand.specs.Cases.{HasName, surroundings_value}
-use Rattle.inc_expand.specs.Expansion.{levels}
+use Rattle.inc_expand.specs.Expansion.{levels, rule_in}
 use Rattle.inc_expand.proofs.CaseSteps.{case-at}
 use Rattle.inc_expand.proofs.FrameSteps.{turn-step, turn-fault}
 use Rattle.inc_expand.proofs.LevelSteps.{step-passes, step-replaced, step-refused}
@@ -20,7 +20,7 @@ returns-in_err-replace_predefined-in-IsPredefined-clause-fault c =
     rw (p.1, p.2) (λ other. turn-fault (surroundings_value c.args.self.now) c.args.work.now c.args.frames.now c.args.level.now c.args.token.now _
     (step-refused (surroundings_value c.args.self.now) c.args.level.now.deeper c.args.token.now c.args.work.now c.args.level.now.list _
     (case-at (surroundings_value c.args.self.now) c.args.work.now.sets c.args.token.now c.args.level.now.list c.in_ok-case.case _ c.in_ok-case.ensures.case c.in-IsPredefined.is)
-    _ (c.in_err-replace_predefined-in-IsPredefined.ensures.fault
+    _ (c.in_err-replace_predefined-in-IsPredefined.ensures.fault (rule_in (surroundings_value c.args.self.now))
     (levels (surroundings_value c.args.self.now) c.args.level.now.deeper) other)))
 
 pub returns-in_ok-replace_predefined-in-IsPredefined-clause-turn :
@@ -30,7 +30,7 @@ returns-in_ok-replace_predefined-in-IsPredefined-clause-turn c =
     (step-replaced (surroundings_value c.args.self.now) c.args.level.now.deeper c.args.token.now c.args.work.now c.args.level.now.list _
     (case-at (surroundings_value c.args.self.now) c.args.work.now.sets c.args.token.now c.args.level.now.list c.in_ok-case.case _ c.in_ok-case.ensures.case c.in-IsPredefined.is)
     c.replace_predefined.new.work c.replace_predefined.new.list c.args.level.now.out.items c.requires.level.out
-    (c.in_ok-replace_predefined-in-IsPredefined.ensures.replaced
+    (c.in_ok-replace_predefined-in-IsPredefined.ensures.replaced (rule_in (surroundings_value c.args.self.now))
     (levels (surroundings_value c.args.self.now) c.args.level.now.deeper)))
 
 pub returns-in_err-replace_object-in-IsObject-clause-fault :

@@ -8,7 +8,7 @@ use Rattle.inc_expand.proofs.pastes.Joiner.run.Goals as goal
 
 pub returns-clause-rest : goal.returns-clause-rest
 returns-clause-rest c s parts =
-    run-with s _ _ _ _ _ _ (lent_tokens c.args.tokens) (c.len-len.result - 1) c.at.result parts c.in_ok-settle.ensures.joins c.requires.joins
+    run-with _ _ s _ _ _ _ _ _ (lent_tokens c.args.tokens) (c.len-len.result - 1) c.at.result parts c.in_ok-settle.ensures.rule c.in_ok-settle.ensures.joins c.requires.joins
     (tokens_in-pushed _ _ _ c.in_ok-push.ensures.items ∙ ap (λ ts. tokens_in c.settle.new.self.done.items ++ ts) c.front.ensures)
     (c.in_ok-settle.ensures.done s) (omega (arith, c.if-len-eq0.false, c.len-len.ensures.len)) (c.at.ensures c.at.result)
 

@@ -6,7 +6,7 @@ use Rattle.inc_expand.proofs.pastes.Joiner.token.Goals as goal
 
 pub returns-then-self-clause-rest : goal.returns-then-self-clause-rest
 returns-then-self-clause-rest c parts =
-    joined-at _ _ _ _ _ _ _ parts c.in_ok-join.ensures.joins c.if-self.true
+    joined-at _ _ _ _ _ _ _ _ _ parts c.in_ok-join.ensures.rule c.in_ok-join.ensures.joins c.if-self.true
     (ap (λ d. carriers c.join.new.sets (tokens_in d.items)) c.in_ok-join.ensures.done ∙ same-carriers _ _ c.join.ensures.keeps _ c.requires.known.0)
     c.in_ok-join.ensures.pasted
 

@@ -13,9 +13,9 @@ pub returns-in_ok-add_definitions-in-Ok-read_lines-clause-state : goal.returns-i
 returns-in_ok-add_definitions-in-Ok-read_lines-clause-state c =
     let setting = c.args.setting.now in
     let ls = lines_of_parts c.in-Ok-read_lines.found in
-    let text : c.in-Ok.text ≡ phase_text c.args.bytes.items = search rules in
+    let text : c.in-Ok.text ≡ phase_text c.args.setting.now.language c.args.bytes.items = search rules in
     let lines = c.in-Ok-read_lines.ensures.lines ∙ ap (λ language. file_lines language (lines_or_none (token_lines language c.in-Ok.text))) c.language.ensures ∙ ap (λ cells. file_lines setting.language (lines_or_none (token_lines setting.language cells))) text in
-    let places : places_defined setting.undefined ls ≡ text_definitions setting (phase_text c.args.bytes.items) = ap (places_defined setting.undefined) lines in
+    let places : places_defined setting.undefined ls ≡ text_definitions setting (phase_text setting.language c.args.bytes.items) = ap (places_defined setting.undefined) lines in
     let entries = c.in_ok-entries-in-Ok-read_lines.ensures.entries in
     ap (λ es. Some (Ok es)) (c.in_ok-add_definitions-in-Ok-read_lines.ensures)
     ∙ ap Some (sym (entries_read setting c.args.project.now c.args.at.now c.args.bytes.items c.in-Ok.text (directives_in ls) (search rules) (search rules)
@@ -33,4 +33,4 @@ returns-in_ok-add_definitions-in-Ok-read_lines-clause-nexts c =
 
 pub returns-in-Some-clause-places : goal.returns-in-Some-clause-places
 returns-in-Some-clause-places c =
-    bad_read c.args.setting.now c.args.project.now (c.args.at.now.next ∷ []) c.args.at.now c.args.bytes.items c.in-Some.line c.args.places.now.found (search rules)
+    bad_read c.args.setting.now c.args.project.now (c.args.at.now.next ∷ []) c.args.at.now c.args.bytes.items c.in-Err-read_lines.fault c.args.places.now.found (search rules)

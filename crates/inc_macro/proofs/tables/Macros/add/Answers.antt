@@ -3,7 +3,7 @@ use Rattle.inc_macro.specs.Macros.{with_new}
 use Rattle.inc_macro.specs.NameSlots.{is_taken, slot_of}
 use Rattle.inc_macro.specs.Tables.{Kept, entries_of, found, table_of}
 use Rattle.inc_macro.proofs.NamedEntries.{found-more, inserted, length-more}
-use Rattle.inc_macro.proofs.TableSteps.{added, slots-added}
+use Rattle.inc_macro.proofs.TableSteps.{added, slots-added, slots-kept}
 use Rattle.inc_macro.proofs.tables.Macros.add.Goals as goal
 
 -- the name had no definition
@@ -26,6 +26,10 @@ returns-clause-done c =
     (length-more c.self.inside.table.keys c.insert.new.self.keys d (last c))
 
 ---- the slots
+
+pub invariant_of-self : goal.invariant_of-self
+invariant_of-self c =
+    (slots-kept c.self.inside.slots.items c.take_slot.new.slots.items (entries_of c.self.inside.table.keys) c.take_slot.ensures.kept c.self.invariant.0, c.self.invariant.1)
 
 pub invariant_of-self-2 : goal.invariant_of-self-2
 invariant_of-self-2 c =

@@ -18,5 +18,5 @@ pub returns-clause-done : goal.returns-clause-done
 returns-clause-done c =
     let d = c.in_ok-definition.definition in
     define-new (map seen c.args.tokens.now) (table_of c.args.self.now) d (defined_in _ _ c.self.view_is (map seen c.args.tokens.now) d c.in_ok-definition.ensures.done) (none c)
-    ∙ ap (λ (e : Definition). Ok (with_new e (table_of c.args.self.now))) (sym c.in_ok-named.ensures)
+    ∙ ap (λ (e : Definition). Ok (with_new e (table_of c.args.self.now))) (sym c.new-named.ensures)
     ∙ ap (λ (t : Table). Ok t) c.in_ok-add.ensures.done

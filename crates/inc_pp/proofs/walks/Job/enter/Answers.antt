@@ -41,8 +41,8 @@ returns-in-Err-clause-over g c = λ origin source table earlier e.
     let none = known_none c.args.files.now c.args.to.at.file (none_of (λ h. h.now) c.get.result c.is_some.result c.args.files.now c.args.to.at.file c.get.ensures c.is_some.ensures c.if-is_some.false) (no_fault c.fault.result c.args.files.now c.args.to.at.file c.fault.ensures c.in_default.is) in
     enter-break g.S.Sources.gives origin c.load.new.sources job c.load.new.self (state_of c.add_read.new.self) c.args.to.at.file c.in-Err.why
     (λ line cause bad.
-    let has : text_tree job.settings.language (is_listed job.without c.args.to.at.file) (phase_text bad.0) ≡ Err (cause, line) =
-    subst (λ l. text_tree l (is_listed job.without c.args.to.at.file) (phase_text bad.0) ≡ Err (cause, line)) c.language.ensures bad.3 in (
+    let has : text_tree job.settings.language (is_listed job.without c.args.to.at.file) (phase_text job.settings.language bad.0) ≡ Err (cause, line) =
+    subst (λ l. text_tree l (is_listed job.without c.args.to.at.file) (phase_text l bad.0) ≡ Err (cause, line)) c.language.ensures bad.3 in (
       subst (λ (st : State). IsOver g.S.Sources.gives origin c.load.new.sources job c.load.new.self
           (record { tokens = st.output; reads = st.reads; stop = Some (record { file = c.args.to.at.file; line = line; cause = cause }) }))
           (sym c.in_ok-add_read.ensures)
@@ -59,8 +59,8 @@ pub returns-clause-entered : goal.returns-clause-entered
 returns-clause-entered g c = λ origin source table earlier e.
     let has = c.in-Ok.ensures.held in
     let job = job_in c.args.self.now source table earlier in
-    let tree : text_tree job.settings.language (is_listed job.without c.args.to.at.file) (phase_text has.0) ≡ Ok has.2 =
-    subst (λ l. text_tree l (is_listed job.without c.args.to.at.file) (phase_text has.0) ≡ Ok has.2) c.language.ensures has.6 in
+    let tree : text_tree job.settings.language (is_listed job.without c.args.to.at.file) (phase_text job.settings.language has.0) ≡ Ok has.2 =
+    subst (λ l. text_tree l (is_listed job.without c.args.to.at.file) (phase_text l has.0) ≡ Ok has.2) c.language.ensures has.6 in
     let kinds : AreOf job.settings.language (lines_of_parts has.1) = subst (λ l. AreOf l (lines_of_parts has.1)) c.language.ensures has.5 in
     rw (reverse-push c.args.frames.now.items c.open-2.new.frames.items (first_frame c.args.self.now.project.now c.args.to) c.in_ok-open-2.ensures, c.in_ok-add_read.ensures, has.4)
     (enter-load g.S.Sources.gives origin c.args.sources.now (job_in c.args.self.now source table earlier) c.args.files.now (reverse c.args.frames.now.items) c.args.to (state_of c.args.state.now) e c.load.new.sources has.0 (known_none c.args.files.now c.args.to.at.file (none_of (λ h. h.now) c.get.result c.is_some.result c.args.files.now c.args.to.at.file c.get.ensures c.is_some.ensures c.if-is_some.false) (no_fault c.fault.result c.args.files.now c.args.to.at.file c.fault.ensures c.in_default.is)) has.3 has.1 has.2 (first_frame c.args.self.now.project.now c.args.to) tree has.7 kinds refl)

@@ -7,11 +7,11 @@ returns-in_ok-put_byte-in-Byte-clause-read c source h =
     let says = c.in_ok-put_byte-in-Byte.ensures in
     let piece = c.in-Byte.ensures in
     let view : c.deref.result.now ≡ c.args.self.now.bytes.items = c.deref.ensures.value in
-    rw (says.origins, says.splices, says.bytes, says.len) (byte_spliced source _ _ _ _ _ _ _ h c.requires.more (rw (← view) piece.value) piece.some (rw (← view) piece.within))
+    rw (says.origins, says.splices, says.bytes, says.len) (byte_spliced c.args.language source _ _ _ _ _ _ _ h c.requires.more (rw (← view) piece.value) piece.some (rw (← view) piece.within))
 
 pub returns-in_ok-push-in-Splice-clause-read : goal.returns-in_ok-push-in-Splice-clause-read
 returns-in_ok-push-in-Splice-clause-read c source h =
     let says = c.in_ok-skip-in-Splice.ensures in
     let piece = c.in-Splice.ensures in
     let view : c.deref.result.now ≡ c.args.self.now.bytes.items = c.deref.ensures.value in
-    rw (c.in_ok-push-in-Splice.ensures.items, says.origins, says.splices, says.bytes, says.len) (splice_spliced source _ _ _ _ _ _ h c.requires.more (rw (← view) piece.value) piece.some (rw (← view) piece.within))
+    rw (c.in_ok-push-in-Splice.ensures.items, says.origins, says.splices, says.bytes, says.len) (splice_spliced c.args.language source _ _ _ _ _ _ h c.requires.more (rw (← view) piece.value) piece.some (rw (← view) piece.within))

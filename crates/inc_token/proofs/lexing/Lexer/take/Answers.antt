@@ -8,14 +8,14 @@ pub overflow_add-self : goal.overflow_add-self
 overflow_add-self c =
     let w = c.args.self.now in
     let h = c.requires.walk in
-    let fits = piece_fits w.bytes.now w.at w.progress (Blank c.in-Blank.len) (omega (arith, h.len, c.requires.left)) c.in-Blank.ensures.piece in
+    let fits = piece_fits w.language w.bytes.now w.at w.progress (Blank c.in-Blank.len) (omega (arith, h.len, c.requires.left)) c.in-Blank.ensures.piece in
     omega (arith, fits.1, h.len, h.short)
 
 pub returns-in-Blank-clause-gives : goal.returns-in-Blank-clause-gives
 returns-in-Blank-clause-gives c =
     let w = c.args.self.now in
     let h = c.requires.walk in
-    let fits = piece_fits w.bytes.now w.at w.progress (Blank c.in-Blank.len) (omega (arith, h.len, c.requires.left)) c.in-Blank.ensures.piece in (
+    let fits = piece_fits w.language w.bytes.now w.at w.progress (Blank c.in-Blank.len) (omega (arith, h.len, c.requires.left)) c.in-Blank.ensures.piece in (
       record {
         walk = record {
           bytes = h.bytes;
@@ -41,11 +41,11 @@ pub take_token-requires-clause-some : goal.take_token-requires-clause-some
 take_token-requires-clause-some c =
     let w = c.args.self.now in
     let h = c.requires.walk in
-    (piece_fits w.bytes.now w.at w.progress (Lexeme c.in-Lexeme.kind c.in-Lexeme.len) (omega (arith, h.len, c.requires.left)) c.in-Lexeme.ensures.piece).0
+    (piece_fits w.language w.bytes.now w.at w.progress (Lexeme c.in-Lexeme.kind c.in-Lexeme.len) (omega (arith, h.len, c.requires.left)) c.in-Lexeme.ensures.piece).0
 
 pub take_token-requires-clause-fits : goal.take_token-requires-clause-fits
 take_token-requires-clause-fits c =
     let w = c.args.self.now in
     let h = c.requires.walk in
-    let fits = piece_fits w.bytes.now w.at w.progress (Lexeme c.in-Lexeme.kind c.in-Lexeme.len) (omega (arith, h.len, c.requires.left)) c.in-Lexeme.ensures.piece in
+    let fits = piece_fits w.language w.bytes.now w.at w.progress (Lexeme c.in-Lexeme.kind c.in-Lexeme.len) (omega (arith, h.len, c.requires.left)) c.in-Lexeme.ensures.piece in
     omega (arith, h.len, fits.1)

@@ -1,4 +1,4 @@
-use Rattle.inc_token.specs.declared.kinds.Language.{Language}
+use Rattle.inc_text.specs.declared.languages.Language.{Language}
 use Rattle.inc_token.specs.Prefixes.{prefix_of}
 use Rattle.std.proofs.Common.{◌≡◌, ◌∷◌, ℕ, List, Ok, drop, option_map, ap, sym, ◌∙◌}
 use Rattle.inc_text.specs.PhaseText.{Cell}

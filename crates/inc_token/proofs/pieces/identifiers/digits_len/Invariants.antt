@@ -7,7 +7,7 @@ abbrev pub invariant-loop-end : goal.invariant-loop-end
 invariant-loop-end l = record {
   begun : l.at ≤ l.end;
   within : l.end ≤ length l.text;
-  rest : l.end + row_len number_part 0 (drop l.end l.text) ≡ l.at + row_len number_part 0 (drop l.at l.text);
+  rest : l.end + row_len (number_part l.fn.language) 0 (drop l.end l.text) ≡ l.at + row_len (number_part l.fn.language) 0 (drop l.at l.text);
 }
 
 abbrev pub decreases-loop-end : goal.decreases-loop-end

@@ -17,4 +17,4 @@ returns-else-is_exponent c =
       | else-is_exponent-via-then-is_exponent+else-is_signed w ↦ (let unsigned : sign ≡ false = cc in and_right exponent sign unsigned)
       | else-is_exponent-via-else-is_exponent w ↦ (let other : exponent ≡ false = cc in and_left exponent sign other)
     ] in
-    c.part_len.ensures ∙ sym (number_part-else text at c.requires c.if-first-eq46.false neither)
+    c.part_len.ensures ∙ sym (number_part-else c.args.language text at c.requires c.if-first-eq46.false neither)

@@ -7,7 +7,7 @@ abbrev pub invariant-loop-end : goal.invariant-loop-end
 invariant-loop-end l = record {
   begun : l.at ≤ l.end;
   within : l.end ≤ length l.text;
-  rest : l.end + row_len identifier_part 0 (drop l.end l.text) ≡ l.at + row_len identifier_part 0 (drop l.at l.text);
+  rest : l.end + row_len (identifier_part l.fn.language) 0 (drop l.end l.text) ≡ l.at + row_len (identifier_part l.fn.language) 0 (drop l.at l.text);
   bare : l.end < length l.text → is_row_byte (get_or l.text l.end 0) ≡ false;
 }
 

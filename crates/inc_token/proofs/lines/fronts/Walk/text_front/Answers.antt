@@ -18,4 +18,4 @@ returns-then-first-eq10-clause-front c =
     let h = c.skip_blanks.ensures.moved.walk in
     let left : w.at < length w.bytes.now = omega (arith, c.if-self.false) in
     sym (c.skip_blanks.ensures.ahead Nothing)
-    ∙ ahead-known w.language w.bytes.now w.cursor w.at Nothing h.bytes (line_feed_piece w.bytes.now w.at left c.if-first-eq10.true)
+    ∙ ahead-known w.language w.bytes.now w.cursor w.at Nothing h.bytes (line_feed_piece w.language w.bytes.now w.at left c.if-first-eq10.true)

@@ -1,0 +1,23 @@
+use Rattle.std.proofs.Common.{arith}
+use Rattle.std.proofs.lemmas.Result.{err_from_is_err_and}
+use Rattle.inc_expand.specs.Elements.{elements_of}
+use Rattle.inc_expand.proofs.ElementSteps.{places-of}
+use Rattle.inc_expand.proofs.SubstitutionSteps.{made-more, made-fault, made-all}
+use Rattle.inc_expand.proofs.replacements.strings_of_body.Goals as goal
+
+pub returns-in_err-push_string-clause-fault : goal.returns-in_err-push_string-clause-fault
+returns-in_err-push_string-clause-fault c s =
+    let p = err_from_is_err_and c.from_residual.result c.from_residual.ensures.1 in
+    rw (p.1, p.2) (λ other. made-fault c.args.args.now (elements_of c.args.definition.now) c.loop-i.i _ c.loop-i.made.items _ s c.element_at.ensures c.loop-i.invariant.0
+    (λ rest. c.in_err-push_string.ensures.fault s rest other))
+
+pub loop-i-preserved : goal.loop-i-preserved
+loop-i-preserved c = (
+  made-more c.args.args.now (elements_of c.args.definition.now) c.loop-i.i _ c.loop-i.made.items _ c.element_at.ensures c.loop-i.invariant.0 c.in_ok-push_string.ensures.rest,
+  λ s. c.in_ok-push_string.ensures.known s (c.loop-i.invariant.1 s),
+)
+
+pub returns-clause-strings : goal.returns-clause-strings
+returns-clause-strings c =
+    made-all c.args.args.now (elements_of c.args.definition.now) c.loop-i.i c.loop-i.made.items
+    (omega (arith, c.loop-i-test.false, c.body_len-i-end.ensures, places-of c.args.definition.now)) c.loop-i.invariant.0

@@ -1,0 +1,19 @@
+use Rattle.std.proofs.Common.{◌≡◌, ◌≢◌, ◌∙◌, List, [], ◌∷◌, Option, ap, refl}
+use Rattle.inc_lookup.specs.Projects.{Layout}
+use Rattle.inc_graph.specs.declared.graphs.Blocker.{Blocker}
+use Rattle.inc_report.specs.CutText.{Unhindered, blocked}
+use Rattle.inc_report.specs.Printed.{Printed}
+use Rattle.inc_report.specs.Refusals.{Refusal}
+use Rattle.inc_report.proofs.WritingLemmas.{prints_all}
+use Rattle.inc_report.proofs.limits.refuse_hindrance.Goals as goal
+
+by_blockers : (layout : Layout) (bs : List Blocker) (fault : Option Refusal) (Then : Printed → Type 0) (p : Printed) → bs ≢ [] → p ≡ blocked layout bs → Unhindered layout bs fault Then p
+by_blockers layout [] fault Then p some is = absurd (some refl)
+by_blockers layout (b ∷ bs) fault Then p some is = is
+
+pub returns-in-Blocked-clause-sent : goal.returns-in-Blocked-clause-sent
+returns-in-Blocked-clause-sent g c =
+    let some = (rw c.in-Blocked.is at c.requires.hindered) (λ e. cc) in
+    prints_all _ _ _ _ c.refuse_blocked.result
+    (λ p is. by_blockers c.args.project.now c.args.graph.now.blockers _ _ p some (is ∙ ap (λ (bs : List Blocker). blocked c.args.project.now bs) c.blockers.ensures.blockers))
+    c.refuse_blocked.ensures.sent

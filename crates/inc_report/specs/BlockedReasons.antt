@@ -1,0 +1,39 @@
+-- Why an answer about cuts is refused where blockers are: what each of them is, and the words that take them as removed.
+use Rattle.std.specs.Prelude.{ℕ, ◌-◌, ◌==◌, ◌||◌, List, [], ◌∷◌, ◌++◌, if◌then◌else◌, codes, decimal, flat_map, length, take}
+use Rattle.inc_text.specs.Ascii.{apostrophe, asterisk, close_bracket, open_bracket, question_mark}
+use Rattle.inc_lookup.specs.Projects.{Layout, path_at}
+use Rattle.inc_graph.specs.declared.graphs.Blocker.{Blocker}
+use Rattle.inc_graph.specs.declared.graphs.BlockerKind.{BlockerKind}
+use Rattle.inc_graph.specs.declared.graphs.BlockerKind.TheVariants.{Computed, Foreign, Several}
+use Rattle.inc_report.specs.FaultReasons.{reason_line}
+use Rattle.inc_report.specs.MissingNotes.{shown_byte}
+use Rattle.inc_report.specs.NearNames.{more_line, most_unnamed}
+
+-- what a blocker is
+abbrev pub blocker_reason_words : BlockerKind → List ℕ
+blocker_reason_words Computed = codes "macros make the name of the header"
+blocker_reason_words Foreign = codes "it may include a header, but is not followed"
+blocker_reason_words Several = codes "it may include several headers"
+
+-- the line on it
+abbrev pub blocker_reason : Layout → Blocker → List ℕ
+blocker_reason layout b = reason_line (path_at layout b.file) b.line (blocker_reason_words b.kind)
+
+-- a byte of a path in a glob between apostrophes, where it stands for itself
+abbrev pub glob_byte : ℕ → List ℕ
+glob_byte b =
+    if b == apostrophe then codes "'\\''" else
+    if (b == asterisk) || (b == question_mark) || (b == open_bracket) then open_bracket ∷ b ∷ close_bracket ∷ [] else shown_byte b
+
+-- the words for a shell that take a blocker as removed
+abbrev pub drop_word : Layout → Blocker → List ℕ
+drop_word layout b = codes " --drop '" ++ flat_map glob_byte (path_at layout b.file) ++ codes ":" ++ decimal b.line ++ codes "'"
+
+-- the line with those for all of these
+abbrev pub drop_line : Layout → List Blocker → List ℕ
+drop_line layout bs = codes "incut: if no build includes the header there, add" ++ flat_map (drop_word layout) bs ++ 10 ∷ []
+
+-- what is said beside the refusal: a line on each of the first blockers, how many more there are, and the words for those that have a line
+abbrev pub blocked_reasons : Layout → List Blocker → List ℕ
+blocked_reasons layout bs =
+    flat_map (blocker_reason layout) (take most_unnamed bs) ++ more_line (length bs - most_unnamed) ++ drop_line layout (take most_unnamed bs)

@@ -1,0 +1,141 @@
+//! Why an answer about cuts is refused where blockers are: what each of them is, and the words that take them as removed.
+ghost use Rattle.std.specs.Prelude.{◌≡◌, ◌<◌, ◌++◌, codes, decimal, flat_map, length, IfOk, OnOk};
+ghost use Rattle.std.specs.List.{All};
+ghost use Rattle.inc_report.specs.BlockedReasons.{blocked_reasons, blocker_reason, blocker_reason_words, drop_line, drop_word, glob_byte};
+
+use crate::fault_reasons::put_reason;
+use crate::missing_notes::{Notes, put_byte, put_number};
+use crate::near_names::{most_of, put_more};
+use inc_graph::{Blocker, BlockerKind};
+use inc_lookup::Project;
+use std::alloc::{AllocError, Global};
+
+/// What is said beside the refusal by these blockers.
+pub(crate) fn blocked_reasons(
+    alloc: Global,
+    project: &Project<'_>,
+    blockers: &[Blocker],
+) -> Result<Notes, AllocError>
+    requires { All (λ (b : Blocker). b.file < length project.now.paths) blockers.now }
+    ensures { IfOk result (λ notes. notes ≡ blocked_reasons project.now blockers.now) }
+{
+    let count = most_of(blockers.len());
+    let mut text = Vec::new(alloc);
+    put_blockers(&mut text, project, &blockers[..count])?;
+    put_more(&mut text, blockers.len() - count)?;
+    put_drops(&mut text, project, &blockers[..count])?;
+    Ok(Notes::of(text))
+}
+
+/// Adds the line on each of these.
+fn put_blockers(
+    text: &mut Vec<u8>,
+    project: &Project<'_>,
+    blockers: &[Blocker],
+) -> Result<(), AllocError>
+    requires { All (λ (b : Blocker). b.file < length project.now.paths) blockers.now }
+    ensures { OnOk result (text.new.items ≡ text.old.items ++ flat_map (blocker_reason project.now) blockers.now) }
+{
+    for blocker in blockers {
+        put_blocker(text, project, *blocker)?;
+    }
+    Ok(())
+}
+
+/// Adds the line on a blocker.
+fn put_blocker(
+    text: &mut Vec<u8>,
+    project: &Project<'_>,
+    blocker: Blocker,
+) -> Result<(), AllocError>
+    requires { blocker.file < length project.now.paths }
+    ensures { OnOk result (text.new.items ≡ text.old.items ++ blocker_reason project.now blocker) }
+{
+    let words = reason_words(blocker.kind);
+    put_reason(text, project.path(blocker.file), blocker.line, words)
+}
+
+/// What a blocker is.
+fn reason_words(kind: BlockerKind) -> &'static [u8]
+    ensures { result.now ≡ blocker_reason_words kind }
+{
+    match kind {
+        BlockerKind::Computed => b"macros make the name of the header",
+        BlockerKind::Foreign => b"it may include a header, but is not followed",
+        BlockerKind::Several => b"it may include several headers",
+    }
+}
+
+/// Adds the line with the words that take these as removed.
+fn put_drops(
+    text: &mut Vec<u8>,
+    project: &Project<'_>,
+    blockers: &[Blocker],
+) -> Result<(), AllocError>
+    requires { All (λ (b : Blocker). b.file < length project.now.paths) blockers.now }
+    ensures { OnOk result (text.new.items ≡ text.old.items ++ drop_line project.now blockers.now) }
+{
+    text.extend_from_slice(b"incut: if no build includes the header there, add")?;
+    put_words(text, project, blockers)?;
+    text.push(b'\n')?;
+    Ok(())
+}
+
+/// Adds the words that take each of these as removed.
+fn put_words(
+    text: &mut Vec<u8>,
+    project: &Project<'_>,
+    blockers: &[Blocker],
+) -> Result<(), AllocError>
+    requires { All (λ (b : Blocker). b.file < length project.now.paths) blockers.now }
+    ensures { OnOk result (text.new.items ≡ text.old.items ++ flat_map (drop_word project.now) blockers.now) }
+{
+    for blocker in blockers {
+        put_drop(text, project, *blocker)?;
+    }
+    Ok(())
+}
+
+/// Adds the words that take a blocker as removed.
+fn put_drop(text: &mut Vec<u8>, project: &Project<'_>, blocker: Blocker) -> Result<(), AllocError>
+    requires { blocker.file < length project.now.paths }
+    ensures { OnOk result (text.new.items ≡ text.old.items ++ drop_word project.now blocker) }
+{
+    put_word(text, project.path(blocker.file), blocker.line)
+}
+
+/// Adds the words that take the directive at a line of a file as removed.
+fn put_word(text: &mut Vec<u8>, path: &[u8], line: u32) -> Result<(), AllocError>
+    ensures { OnOk result (text.new.items ≡ text.old.items
+        ++ (codes " --drop '" ++ flat_map glob_byte path.now ++ codes ":" ++ decimal line ++ codes "'")) }
+{
+    text.extend_from_slice(b" --drop '")?;
+    put_glob(text, path)?;
+    text.extend_from_slice(b":")?;
+    put_number(text, u64::from(line))?;
+    text.extend_from_slice(b"'")?;
+    Ok(())
+}
+
+/// Adds a path as a glob between apostrophes that fits it alone.
+fn put_glob(text: &mut Vec<u8>, path: &[u8]) -> Result<(), AllocError>
+    ensures { OnOk result (text.new.items ≡ text.old.items ++ flat_map glob_byte path.now) }
+{
+    for byte in path {
+        put_glob_byte(text, *byte)?;
+    }
+    Ok(())
+}
+
+/// Adds a byte of a glob between apostrophes, where it stands for itself.
+fn put_glob_byte(text: &mut Vec<u8>, byte: u8) -> Result<(), AllocError>
+    ensures { OnOk result (text.new.items ≡ text.old.items ++ glob_byte byte) }
+{
+    match byte {
+        b'\'' => text.extend_from_slice(b"'\\''"),
+        b'*' => text.extend_from_slice(b"[*]"),
+        b'?' => text.extend_from_slice(b"[?]"),
+        b'[' => text.extend_from_slice(b"[[]"),
+        _ => put_byte(text, byte),
+    }
+}
