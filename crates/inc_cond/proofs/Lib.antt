@@ -11,3 +11,4 @@ pub mod NumberLemmas
 pub mod CharacterSteps
 pub mod KnownValues
 pub mod MemoryFaults
+pub mod StandingTokens

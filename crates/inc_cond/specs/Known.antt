@@ -7,6 +7,7 @@ use Rattle.inc_cond.specs.declared.operators.Unary.{Unary}
 use Rattle.inc_cond.specs.declared.operators.Binary.{Binary}
 use Rattle.inc_cond.specs.declared.values.Value.{Value}
 use Rattle.inc_cond.specs.declared.known.Known.{Known}
+use Rattle.inc_cond.specs.declared.known.Kept.{Kept}
 use Rattle.inc_cond.specs.Values.{unary_value}
 use Rattle.inc_cond.specs.Expressions.{Expression, Forms}
 use Rattle.inc_cond.specs.Evaluation.{nesting, unary_type, binary_type, is_unsigned, joined_value, chosen_value, value_of}
@@ -69,3 +70,13 @@ bounded k = if nat_lt most_nesting k.nesting then Err TooNested else k.value
 abbrev pub bounded_value : Option Known → Result Value CondFault
 bounded_value None = Err BadExpression
 bounded_value (Some k) = bounded k
+
+---- what waits
+
+-- the value that waits, or its fault
+abbrev pub value_in : Kept → Result Value CondFault
+value_in k = elim k.fault [ Some f ↦ Err f | None ↦ Ok (record { unsigned = k.unsigned_value; bits = k.bits }) ]
+
+-- what is known of an expression that waits
+abbrev pub known_in : Kept → Known
+known_in k = record { value = value_in k; unsigned = k.unsigned; nesting = k.nesting }

@@ -12,4 +12,5 @@ pub mod Numerals
 pub mod Frames
 pub mod Operands
 pub mod Questions
+pub mod Standing
 pub mod Walks

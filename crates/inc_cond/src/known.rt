@@ -9,7 +9,7 @@ use crate::operators::{Binary, Unary};
 use crate::values::Value;
 
 /// The most nesting that an expression may have.
-pub const MOST_NESTING: u32 = 256;
+pub const MOST_NESTING: u16 = 256;
 
 /// What is kept of an expression that was read, for which no tree is made: what its evaluation gives, whether that is reached or not.
 #[derive(Clone, Copy)]
@@ -19,16 +19,81 @@ pub struct Known {
     /// Whether its type is unsigned.
     pub unsigned: bool,
     /// How deep it is nested; all above [`MOST_NESTING`] as one more than that.
-    pub nesting: u32,
+    pub nesting: u16,
+}
+
+/// A [`Known`] in 16 bytes, as it waits: a text may have one for every two of its bytes.
+#[derive(Clone, Copy)]
+pub struct Kept {
+    /// The bits of its value, where it has one.
+    bits: u64,
+    /// The first fault of its evaluation, if there is one.
+    fault: Option<CondFault>,
+    /// Whether the type of its value is unsigned.
+    unsigned_value: bool,
+    /// Whether its own type is unsigned.
+    unsigned: bool,
+    /// How deep it is nested.
+    nesting: u16,
 }
 
 /// What is at the places of a `SmallVec` that hold none.
-impl Default for Known {
-    fn default() -> Known {
-        Known {
-            value: Err(CondFault::BadExpression),
+impl Default for Kept {
+    fn default() -> Kept {
+        Kept {
+            bits: 0,
+            fault: None,
+            unsigned_value: false,
             unsigned: false,
             nesting: 0,
+        }
+    }
+}
+
+impl Kept {
+    /// What is known, as it waits.
+    pub fn of(known: Known) -> Kept
+        ensures { spec.known_in result ≡ known }
+    {
+        match known.value {
+            Ok(value) => Kept {
+                bits: value.bits,
+                fault: None,
+                unsigned_value: value.unsigned,
+                unsigned: known.unsigned,
+                nesting: known.nesting,
+            },
+            Err(fault) => Kept {
+                bits: 0,
+                fault: Some(fault),
+                unsigned_value: false,
+                unsigned: known.unsigned,
+                nesting: known.nesting,
+            },
+        }
+    }
+
+    /// What is known.
+    pub fn known(self) -> Known
+        ensures { result ≡ spec.known_in self }
+    {
+        Known {
+            value: self.value(),
+            unsigned: self.unsigned,
+            nesting: self.nesting,
+        }
+    }
+
+    /// The value, or the first fault.
+    fn value(self) -> Result<Value, CondFault>
+        ensures { result ≡ spec.value_in self }
+    {
+        match self.fault {
+            Some(fault) => Err(fault),
+            None => Ok(Value {
+                unsigned: self.unsigned_value,
+                bits: self.bits,
+            }),
         }
     }
 }
@@ -94,7 +159,7 @@ impl Known {
 }
 
 /// One deeper.
-fn deeper(nesting: u32) -> u32
+fn deeper(nesting: u16) -> u16
     ensures { result ≡ spec.deeper nesting }
 {
     if nesting > MOST_NESTING {

@@ -249,7 +249,7 @@ fn lent<'t>(item: &'t Item<'_>) -> ItemRef<'t>
 }
 
 /// A token of a source as one of an expansion.
-fn source_ref<'t>(token: &'t Token<'_>) -> ItemRef<'t>
+pub fn source_ref<'t>(token: &'t Token<'_>) -> ItemRef<'t>
     ensures { seen_ref result ≡ item_of_source (seen token.now) }
 {
     ItemRef {

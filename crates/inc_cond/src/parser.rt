@@ -1,14 +1,15 @@
 //! The reading of an expression: a walk over its symbols with a stack, in place of the grammar's recursion.
-ghost use Rattle.std.specs.Prelude.{◌≡◌, ◌≢◌, ◌==◌, ◌&&◌, true, false, List, [], ◌∷◌, Some, None, OnOk, IfOk, IfSome, IfNone, IsTrue, bytes_eq, codes, drop, not, reverse};
+ghost use Rattle.std.specs.Prelude.{◌≡◌, ◌≢◌, ◌==◌, ◌&&◌, true, false, List, [], ◌∷◌, Some, None, OnOk, IfOk, IfSome, IfNone, IsTrue, bytes_eq, codes, drop, map, not, reverse};
 ghost use Rattle.inc_cond.specs.Expressions.{behind, whole};
 ghost use Rattle.inc_cond.specs.Frames.{first_known, given, is_over, IsStep};
+ghost use Rattle.inc_cond.specs.Known.{known_in};
 ghost use Rattle.inc_cond.specs.SymbolViews.{seen_symbol, symbols_in};
 ghost use Rattle.inc_cond.specs.Symbols.{Sign};
 ghost use Rattle.inc_cond.specs.declared.parser.Frame.{Frame};
 ghost use Rattle.inc_cond.specs.declared.parser.Frame.TheVariants as frame;
 ghost use Rattle.inc_cond.specs.declared.parser.Turn.TheVariants as turn;
 
-use crate::known::Known;
+use crate::known::{Kept, Known};
 use crate::operators::{Binary, Unary};
 use crate::symbols::Symbol;
 use crate::values::Value;
@@ -105,17 +106,18 @@ impl Turn {
 pub struct Frames {
     marks: SmallVec<Mark, FEW_FRAMES>,
     /// The expressions of all frames, in the order in which they were read.
-    knowns: SmallVec<Known, FEW_FRAMES>,
+    knowns: SmallVec<Kept, FEW_FRAMES>,
 }
 
 impl Model for Frames {
-    ghost use Rattle.std.specs.Prelude.{List, reverse};
+    ghost use Rattle.std.specs.Prelude.{List, map, reverse};
     ghost use Rattle.inc_cond.specs.Frames.{frames_of};
+    ghost use Rattle.inc_cond.specs.Known.{known_in};
     ghost use Rattle.inc_cond.specs.declared.parser.Frame.{Frame};
 
     ghost Value = { List Frame };
 
-    ghost view = { λ f. frames_of (reverse f.marks.items) (reverse f.knowns.items) };
+    ghost view = { λ f. frames_of (reverse f.marks.items) (map known_in (reverse f.knowns.items)) };
 }
 
 impl Frames {
@@ -141,16 +143,16 @@ impl Frames {
                 left,
                 least,
             } => {
-                self.knowns.push(left)?;
+                self.knowns.push(Kept::of(left))?;
                 self.marks.push(Mark::Infix { operator, least })?;
             }
             Frame::Question { test } => {
-                self.knowns.push(test)?;
+                self.knowns.push(Kept::of(test))?;
                 self.marks.push(Mark::Question)?;
             }
             Frame::Colon { test, then } => {
-                self.knowns.push(test)?;
-                self.knowns.push(then)?;
+                self.knowns.push(Kept::of(test))?;
+                self.knowns.push(Kept::of(then))?;
                 self.marks.push(Mark::Colon)?;
             }
         }
@@ -188,12 +190,12 @@ impl Frames {
 }
 
 /// Takes the expression that was read last. None is missing where a frame has one.
-fn pop_known(knowns: &mut SmallVec<Known, FEW_FRAMES>) -> Known
-    ensures known { result ≡ first_known (reverse knowns.old.items) }
-    ensures rest { reverse knowns.new.items ≡ drop 1 (reverse knowns.old.items) }
+fn pop_known(knowns: &mut SmallVec<Kept, FEW_FRAMES>) -> Known
+    ensures known { result ≡ first_known (map known_in (reverse knowns.old.items)) }
+    ensures rest { map known_in (reverse knowns.new.items) ≡ drop 1 (map known_in (reverse knowns.old.items)) }
 {
     match knowns.pop() {
-        Some(known) => known,
+        Some(kept) => kept.known(),
         None => Known::literal(Value::truth(false)),
     }
 }

@@ -20,11 +20,14 @@ use crate::parts::{
 use crate::walks::DirectiveIter;
 use inc_text::{Language, Text};
 use inc_token::{
-    Kind, LexFault, LineSketch, Operand, Prefix, TextLines, TextRun, Token, lex_end, lex_lines,
-    lex_token, line_prefix, text_lines,
+    Kind, LexFault, LineSketch, LineTokens, Operand, Prefix, TextLines, TextRun, Token, lex_end,
+    lex_line, lex_lines, lex_token, line_prefix, text_lines,
 };
 use std::alloc::{AllocError, Global};
 use std::marker::Model;
+
+/// A list of the tokens of a line that is no longer needs little memory: 32 bytes for each token.
+const LONG_LINE: usize = 4_096;
 
 /// The lines of a file: its text, in parts of 8 bytes each. A part is a directive, or lines of text one after the other, 65,535 at most, so that
 /// text takes no memory beside its own. A directive that includes takes 12 bytes more.
@@ -180,6 +183,19 @@ impl FileLines {
         let mut line = Vec::with_capacity(alloc, room)?;
         lex_lines(&self.text, self.language, start, 1, false, &mut line)?;
         Ok(line)
+    }
+
+    /// A walk over the tokens of a directive, none of which is kept.
+    pub fn tokens(&self, i: usize) -> LineTokens<'_>
+        requires { i < length self.now }
+        ensures { (l : FileLine) → slice_get self.now i ≡ Some (DirectivePart l) → result ≡ l.tokens }
+    {
+        lex_line(&self.text, self.language, self.parts[i].start as usize)
+    }
+
+    /// Whether a part is so long that a list of its tokens is better not made, as a hint.
+    pub fn is_long(&self, i: usize) -> bool {
+        self.bytes_between(i, i.saturating_add(1)) > LONG_LINE
     }
 
     /// The first part, from this one on, that is no text, or the number of parts.

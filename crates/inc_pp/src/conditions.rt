@@ -1,11 +1,13 @@
 //! Conditions of if-sections (ISO/IEC 9899:2018, 6.10.1).
-ghost use Rattle.std.specs.Prelude.{◌≡◌, ◌<◌, Ok, Err, Some, length, map, ok_or, option_map, slice_get, IfOk, IfErr, OnErr};
+ghost use Rattle.std.specs.Prelude.{◌≡◌, ◌<◌, true, Ok, Err, Some, length, map, ok_or, option_map, slice_get, IfOk, IfErr, OnErr};
 ghost use Rattle.inc_token.specs.Views.{seen};
 ghost use Rattle.inc_directive.specs.Groups.{FileLine};
 ghost use Rattle.inc_directive.specs.Parts.{DirectivePart, lines_of_parts};
 ghost use Rattle.inc_directive.specs.KindViews.{seen_kind};
 ghost use Rattle.inc_macro.specs.Tables.{table_of};
+ghost use Rattle.inc_expand.specs.Expansion.{Meter, Place};
 ghost use Rattle.inc_expand.specs.Places.{place_value};
+ghost use Rattle.inc_cond.specs.Standing.{all_stand};
 ghost use Rattle.inc_pp.specs.Sections as spec;
 ghost use Rattle.inc_pp.specs.StateViews.{only, state_of};
 ghost use Rattle.inc_pp.specs.declared.causes.Cause.TheVariants.{BadName};
@@ -22,11 +24,12 @@ use crate::line_numbers::Here;
 use crate::lines::{first_line, operands};
 use crate::settings::Settings;
 use crate::states::State;
-use inc_cond::{CondFault, CondValue, HeaderSearch, value};
+use inc_cond::{CondFault, CondValue, HeaderSearch, all_stand, standing_value, value};
 use inc_directive::{DirectiveKind, FileLines, LineKind};
 use inc_expand::Budget;
 use inc_macro::Macros;
-use inc_token::{Kind, Token};
+use inc_token::{Kind, LineTokens, Token};
+use std::alloc::Global;
 
 /// What a line asks that begins a branch.
 #[derive(Clone, Copy)]
@@ -100,6 +103,31 @@ impl State {
             self.old.budget (spec.operands l) ≡ Err cause)))) }
         ensures kept { state_of self.new ≡ with_meter self.new.budget (state_of self.old) }
     {
+        if stands_alone(&self.macros, lines, i) {
+            return standing_true(self.alloc, &self.macros, headers, lines, i);
+        }
+        self.is_true_in_list(settings, headers, lines, i, here)
+    }
+
+    /// The same, by a list of the tokens of the line.
+    fn is_true_in_list(
+        &mut self,
+        settings: &Settings<'_>,
+        headers: &HeaderSearch<'_>,
+        lines: &FileLines,
+        i: usize,
+        here: &Here,
+    ) -> Result<bool, Break>
+        requires within { i < length lines.now }
+        ensures done { IfOk result (λ taken. (l : FileLine) → slice_get lines.now i ≡ Some (DirectivePart l) →
+            value_true headers.now (place_under settings.now here.now) (table_of self.old.macros)
+            self.old.budget (spec.operands l) ≡ Ok (taken, self.new.budget)) }
+        ensures stop { IfErr result (λ fault. IfStop fault (λ line cause. (self.new.budget ≡ self.old.budget)
+            × ((l : FileLine) → slice_get lines.now i ≡ Some (DirectivePart l) → (line ≡ line_of_tokens l.tokens)
+            × (value_true headers.now (place_under settings.now here.now) (table_of self.old.macros)
+            self.old.budget (spec.operands l) ≡ Err cause)))) }
+        ensures kept { state_of self.new ≡ with_meter self.new.budget (state_of self.old) }
+    {
         // Lent anew, for as long as the macros.
         let lines = &*lines;
         let here = &*here;
@@ -115,6 +143,62 @@ impl State {
         let taken = value_true(&around, headers, operands(&tokens), &mut self.budget)?;
         Ok(taken)
     }
+}
+
+/// Whether a line is long, and none of its operands is replaced.
+fn stands_alone(macros: &Macros, lines: &FileLines, i: usize) -> bool
+    requires within { i < length lines.now }
+    ensures { result ≡ true → (l : FileLine) → slice_get lines.now i ≡ Some (DirectivePart l) →
+        all_stand (table_of macros.now) (spec.operands l) ≡ true }
+{
+    if !lines.is_long(i) {
+        return false;
+    }
+    let mut tokens = operand_walk(lines, i);
+    all_stand(macros, &mut tokens)
+}
+
+/// A walk over the operands of a line.
+fn operand_walk(lines: &FileLines, i: usize) -> LineTokens<'_>
+    requires within { i < length lines.now }
+    ensures { (l : FileLine) → slice_get lines.now i ≡ Some (DirectivePart l) → result ≡ spec.operands l }
+{
+    let mut tokens = lines.tokens(i);
+    let _hash = tokens.next();
+    let _name = tokens.next();
+    tokens
+}
+
+/// Whether the value of the operands of a line is not 0, none of which is replaced.
+fn standing_true<'a>(
+    alloc: Global,
+    macros: &'a Macros,
+    headers: &'a HeaderSearch<'a>,
+    lines: &FileLines,
+    i: usize,
+) -> Result<bool, Break>
+    requires within { i < length lines.now }
+    requires stand { (l : FileLine) → slice_get lines.now i ≡ Some (DirectivePart l) →
+        all_stand (table_of macros.now) (spec.operands l) ≡ true }
+    ensures done { IfOk result (λ taken. (place : Place) (meter : Meter) (l : FileLine) →
+        slice_get lines.now i ≡ Some (DirectivePart l) →
+        value_true headers.now place (table_of macros.now) meter (spec.operands l) ≡ Ok (taken, meter)) }
+    ensures stop { IfErr result (λ fault. IfStop fault (λ line cause. (place : Place) (meter : Meter) (l : FileLine) →
+        slice_get lines.now i ≡ Some (DirectivePart l) → (line ≡ line_of_tokens l.tokens)
+        × (value_true headers.now place (table_of macros.now) meter (spec.operands l) ≡ Err cause))) }
+{
+    let mut tokens = operand_walk(lines, i);
+    let value = match standing_value(alloc, &mut tokens, macros, headers) {
+        Ok(value) => value,
+        Err(CondFault::NoMemory) => return Err(Break::NoMemory),
+        Err(fault) => {
+            return Err(Break::Stop {
+                line: lines.first_line(i),
+                cause: Cause::Condition(fault),
+            });
+        }
+    };
+    Ok(is_true(value))
 }
 
 /// Whether the first operand of a line is the name of a macro.

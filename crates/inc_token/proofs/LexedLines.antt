@@ -40,7 +40,7 @@ pub record AreTaken (language : Language) (text : List Cell) (at count left : �
   pub first : is_first ≡ next_is_spaced is_spaced begun
   pub between : left ≡ 0 → begun ≡ []
 
-nothing_done : (rest : Result (List TokenLine) LexFault) → answer_with [] [] rest ≡ rest
+pub nothing_done : (rest : Result (List TokenLine) LexFault) → answer_with [] [] rest ≡ rest
 nothing_done (Err fault) = refl
 nothing_done (Ok []) = refl
 nothing_done (Ok (l ∷ ls)) = refl

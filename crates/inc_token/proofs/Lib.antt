@@ -1,5 +1,6 @@
 pub mod FrontPieces
 pub mod LexedLines
+pub mod LineLeft
 pub mod Lengths
 pub mod Longest
 pub mod Rows

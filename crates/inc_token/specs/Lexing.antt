@@ -1,5 +1,5 @@
 -- A walk over a text that gives one token or line end at a time: what is left of the text, and what each step gives of the answer.
-use Rattle.std.specs.Prelude.{◌≡◌, ℕ, ◌+◌, ◌<◌, ◌≤◌, false, List, [], ◌∷◌, ◌++◌, Result, Ok, length, drop, slice_index, slice_range}
+use Rattle.std.specs.Prelude.{◌≡◌, ℕ, ◌+◌, ◌<◌, ◌≤◌, false, List, [], ◌∷◌, ◌++◌, Result, Ok, Err, length, drop, slice_index, slice_range}
 use Rattle.inc_text.specs.PhaseText.{bytes_of, longest_text}
 use Rattle.inc_token.specs.LineEnds.{answer_with}
 use Rattle.inc_token.specs.Spellings.{is_blank}
@@ -65,6 +65,21 @@ Gives old (LineEnd line) new =
     → answer_with (done ++ record { tokens = begun; last_line = line } ∷ []) [] (rest_of new) ≡ answer_with done begun (rest_of old))
 Gives old Blank new = HasMoved old new × (rest_of new ≡ rest_of old)
 Gives old End new = rest_of old ≡ Ok []
+
+-- the tokens of the first of some lines
+abbrev pub first_tokens : Result (List TokenLine) LexFault → List Tok
+first_tokens (Ok (l ∷ ls)) = l.tokens
+first_tokens (Ok []) = []
+first_tokens (Err fault) = []
+
+-- the tokens that are left of the line that a walk is on
+abbrev pub line_left : Lexer → List Tok
+line_left l = first_tokens (rest_of l)
+
+-- a walk is on a line, which ends
+pub record IsOnLine (l : Lexer) : Type 0 where
+  pub walk : IsWalk l
+  pub line : (k : TokenLine) × (ks : List TokenLine) × (rest_of l ≡ Ok (k ∷ ks))
 
 -- no white space of one byte is at the place
 abbrev pub IsBare : Lexer → Type 0

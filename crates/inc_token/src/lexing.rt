@@ -1,8 +1,8 @@
 //! A walk over a text that gives one token or line end at a time, and the lists that its tokens are put into.
-ghost use Rattle.std.specs.Prelude.{◌≡◌, ◌≢◌, ◌+◌, ◌≤◌, ◌<◌, ◌++◌, [], ◌∷◌, List, length, map, drop, OnOk, IfOk, IfErr, Ok, Err};
+ghost use Rattle.std.specs.Prelude.{◌≡◌, ◌≢◌, ◌+◌, ◌≤◌, ◌<◌, ◌++◌, [], ◌∷◌, List, length, map, drop, OnOk, IfOk, IfErr, IfSome, IfNone, Ok, Err};
 ghost use Rattle.inc_text.specs.PhaseText.{bytes_of};
 ghost use Rattle.inc_token.specs.LineEnds.{AreInOrder, lines_of};
-ghost use Rattle.inc_token.specs.Lexing.{Gives, IsBare, IsWalk, LiesIn, placed, rest_of};
+ghost use Rattle.inc_token.specs.Lexing.{Gives, IsBare, IsOnLine, IsWalk, LiesIn, line_left, placed, rest_of};
 ghost use Rattle.inc_token.specs.LineWalk.{lines_at};
 ghost use Rattle.inc_token.specs.TokenLines.{Tok, piece_at, progress_with, token_lines};
 ghost use Rattle.inc_token.specs.Views.{seen};
@@ -128,6 +128,24 @@ impl<'a> Lexer<'a> {
         }
         let step = self.take()?;
         Ok(step)
+    }
+
+    /// The next token of the line, or none at its end, which is gone over.
+    pub(crate) fn next_in_line(&mut self) -> Option<Token<'a>>
+        requires { IsOnLine self.old }
+        ensures some { IfSome result (λ t. IsOnLine self.new
+            × (line_left self.old ≡ seen t ∷ line_left self.new)) }
+        ensures none { IfNone result (line_left self.old ≡ []) }
+    {
+        'steps: loop {
+            match self.next() {
+                Ok(Step::Token(token)) => return Some(lent(self.bytes, token)),
+                Ok(Step::LineEnd(_)) => return None,
+                Ok(Step::Blank) => {}
+                // The line ends, and no fault comes before.
+                Ok(Step::End) | Err(_) => unreachable!(),
+            }
+        }
     }
 
     /// Goes over what is at the place.

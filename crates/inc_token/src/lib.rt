@@ -15,7 +15,7 @@ mod pieces;
 pub use blanking::blank;
 pub use classes::kind_of;
 pub use kinds::{IncludeName, Kind};
-pub use line_tokens::{lex_end, lex_lines, lex_token};
+pub use line_tokens::{LineTokens, lex_end, lex_line, lex_lines, lex_token};
 pub use lines::{
     LexFault, LineSketch, Lines, Operand, Prefix, Stretch, TextLines, TextRun, Token, include_name,
     is_hash, lex, line_prefix, text_lines,

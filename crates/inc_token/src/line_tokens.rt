@@ -1,5 +1,5 @@
 //! The tokens of lines of a text, which are lexed where they are wanted.
-ghost use Rattle.std.specs.Prelude.{◌≡◌, ◌≤◌, ◌++◌, ◌∷◌, List, Ok, length, map, option_map, slice_get, take, OnOk};
+ghost use Rattle.std.specs.Prelude.{◌≡◌, ◌≤◌, ◌++◌, [], ◌∷◌, List, Ok, drop, length, map, option_map, slice_get, take, OnOk, IfSome, IfNone};
 ghost use Rattle.inc_token.specs.LineWalk.{lines_at, spaced_token, tokens_of_lines};
 ghost use Rattle.inc_token.specs.TokenLines.{TokenLine};
 ghost use Rattle.inc_token.specs.Views.{seen};
@@ -8,6 +8,7 @@ use crate::lexing::{Lexer, Step};
 use crate::lines::{Token, lent};
 use inc_text::{Language, Text};
 use std::alloc::AllocError;
+use std::marker::Model;
 
 /// Adds the tokens of so many lines to a list, the first of which begins here. Where they are wanted spaced, the first token of each
 /// line has white space before it, since a line end is there. Where memory runs out, nothing is promised of what the list holds. It is
@@ -112,5 +113,54 @@ pub fn lex_end(text: &Text, language: Language, at: usize) -> u32
             // The line ends, and no fault comes before.
             Ok(Step::End) | Err(_) => unreachable!(),
         }
+    }
+}
+
+/// The tokens of one line, one after the other. They take no memory.
+#[derive(Drop)]
+pub struct LineTokens<'a> {
+    lexer: Lexer<'a>,
+    /// Whether the line has ended.
+    is_over: bool,
+}
+
+impl<'a> Model for LineTokens<'a> {
+    ghost use Rattle.std.specs.Prelude.{◌≡◌, List, [], false, if◌then◌else◌};
+    ghost use Rattle.inc_token.specs.Lexing.{IsOnLine, line_left};
+    ghost use Rattle.inc_token.specs.TokenLines.{Tok};
+
+    ghost Value = { List Tok };
+
+    ghost view = { λ t. if t.is_over then [] else line_left t.lexer };
+
+    ghost invariant = { λ t. t.is_over ≡ false → IsOnLine t.lexer };
+}
+
+/// The tokens of the line that begins here.
+pub fn lex_line<'a>(text: &'a Text, language: Language, at: usize) -> LineTokens<'a>
+    requires within { at ≤ length text.now }
+    requires line { (l : TokenLine) × (ls : List TokenLine) × (lines_at language text.now at ≡ Ok (l ∷ ls)) }
+    ensures { (l : TokenLine) (ls : List TokenLine) → lines_at language text.now at ≡ Ok (l ∷ ls) →
+        result ≡ l.tokens }
+{
+    LineTokens {
+        lexer: Lexer::at_line(text, language, at),
+        is_over: false,
+    }
+}
+
+impl<'a> LineTokens<'a> {
+    /// The next token, if there is one.
+    pub fn next(&mut self) -> Option<Token<'a>>
+        ensures some { IfSome result (λ t. self.old ≡ seen t ∷ self.new) }
+        ensures none { IfNone result (self.old ≡ []) }
+        ensures rest { self.new ≡ drop 1 self.old }
+    {
+        if self.is_over {
+            return None;
+        }
+        let next = self.lexer.next_in_line();
+        self.is_over = next.is_none();
+        next
     }
 }
