@@ -1,0 +1,10 @@
+pub mod BuildLemmas
+pub mod CommandLemmas
+pub mod EntryLemmas
+pub mod Examples
+pub mod OnceLemmas
+pub mod OnlyUses
+pub mod PathLemmas
+pub mod TextLemmas
+pub mod UseLemmas
+pub mod WordLemmas

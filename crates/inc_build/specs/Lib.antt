@@ -1,0 +1,10 @@
+pub mod Builds
+pub mod Commands
+pub mod CompilerWords
+pub mod Configurations
+pub mod Databases
+pub mod Entries
+pub mod PathTexts
+pub mod Paths
+pub mod Uses
+pub mod Views
