@@ -12,13 +12,13 @@ files = record { list = Some (codes "f"); is_null = true; roots = []; dirs = cod
 abbrev pub cut_words : List Text
 cut_words =
     codes "incut" ∷ codes "--extended" ∷ codes "cut" ∷ codes "-I" ∷ codes "a" ∷ codes "--files=f" ∷ codes "s.c" ∷ codes "-0Ib" ∷ codes "--costs" ∷ codes "-" ∷ codes "--blank"
-    ∷ codes "-q" ∷ codes "--keep" ∷ codes "k/*.h:7" ∷ codes "h.h" ∷ codes "--keep=l" ∷ []
+    ∷ codes "-q" ∷ codes "--format=text" ∷ codes "--all" ∷ codes "--keep" ∷ codes "k/*.h:7" ∷ codes "h.h" ∷ codes "--keep=l" ∷ []
 
 -- options stand before words and after them; letters may share a word
 pub cut_is_asked : meaning cut_words
     ≡ record {
       asked = Cut (record { files = files; source = Some (codes "s.c"); header = Some (codes "h.h"); from = []; to = []; without = None; drop = []; undefined = [] }) (record { fixed = None; keep = codes "k/*.h:7" ∷ codes "l" ∷ []; only = []; costs = Some (codes "-") })
-          (record { is_blank = true; is_patch = false });
+          (record { is_blank = true; is_patch = false; format = record { name = Some (codes "text"); is_all = true } });
       languages = record { is_extended = true; is_gnu = false };
       is_quiet = true;
       follows = false;
@@ -58,7 +58,7 @@ unfolding clap_on_literals
 sources_are_preprocessed = refl
 
 -- sources and headers by options, which may be given again
-pub sets_are_asked : meaning (codes "incut" ∷ codes "why" ∷ codes "--files" ∷ codes "f" ∷ codes "--from=*.c" ∷ codes "--to" ∷ codes "a.h" ∷ codes "--from" ∷ codes "x" ∷ [])
+pub sets_are_asked : meaning (codes "incut" ∷ codes "why" ∷ codes "--files" ∷ codes "f" ∷ codes "--from=*.c" ∷ codes "--to" ∷ codes "a.h" ∷ codes "--from" ∷ codes "x" ∷ codes "--format" ∷ codes "gcc" ∷ [])
     ≡ record {
       asked = Why (record {
         files = record { list = Some (codes "f"); is_null = false; roots = []; dirs = []; system = []; last = [] };
@@ -69,7 +69,7 @@ pub sets_are_asked : meaning (codes "incut" ∷ codes "why" ∷ codes "--files" 
         without = None;
         drop = [];
         undefined = [];
-      });
+      }) (record { name = Some (codes "gcc"); is_all = false });
       languages = record { is_extended = false; is_gnu = false };
       is_quiet = false;
       follows = false;
@@ -78,7 +78,7 @@ unfolding clap_on_literals
 sets_are_asked = refl
 
 -- the sources that reach a header; where no option says which, each .c file of the project is one
-pub sources_are_asked : meaning (codes "incut" ∷ codes "who" ∷ codes "--files" ∷ codes "f" ∷ codes "--chains" ∷ codes "--undefined" ∷ codes "N" ∷ codes "a.h" ∷ [])
+pub sources_are_asked : meaning (codes "incut" ∷ codes "who" ∷ codes "--files" ∷ codes "f" ∷ codes "--chains" ∷ codes "--format" ∷ codes "gcc" ∷ codes "--undefined" ∷ codes "N" ∷ codes "a.h" ∷ [])
     ≡ record {
       asked = Who (record {
         files = record { list = Some (codes "f"); is_null = false; roots = []; dirs = []; system = []; last = [] };
@@ -89,7 +89,7 @@ pub sources_are_asked : meaning (codes "incut" ∷ codes "who" ∷ codes "--file
         without = None;
         drop = [];
         undefined = codes "N" ∷ [];
-      }) true;
+      }) (record { name = Some (codes "gcc"); is_all = true });
       languages = record { is_extended = false; is_gnu = false };
       is_quiet = false;
       follows = false;

@@ -92,6 +92,12 @@ blank = flag (codes "blank")
 abbrev pub patch : Rule
 patch = flag (codes "patch")
 
+abbrev pub format : Rule
+format = option (codes "format")
+
+abbrev pub all : Rule
+all = flag (codes "all")
+
 -- -D
 abbrev pub define : Rule
 define = repeated 68 (codes "define")
@@ -172,9 +178,13 @@ note_rules = quiet ∷ []
 abbrev pub limit_rules : List Rule
 limit_rules = fixed ∷ keep ∷ only ∷ costs ∷ []
 
+-- in which format an answer is printed
+abbrev pub format_rules : List Rule
+format_rules = format ∷ all ∷ []
+
 -- what is printed of a cut
 abbrev pub form_rules : List Rule
-form_rules = blank ∷ patch ∷ []
+form_rules = blank ∷ patch ∷ format_rules
 
 -- which macros are defined, and what is done without a header
 abbrev pub macro_rules : List Rule
@@ -190,7 +200,7 @@ end_rules = undefined ∷ from ∷ to ∷ source ∷ header ∷ []
 
 -- which sources of several are asked for, and what is printed of them
 abbrev pub who_rules : List Rule
-who_rules = undefined ∷ chains ∷ from ∷ to ∷ header ∷ []
+who_rules = undefined ∷ chains ∷ format ∷ from ∷ to ∷ header ∷ []
 
 -- from which sources, in builds that do not define some names
 abbrev pub graph_rules : List Rule
@@ -200,7 +210,7 @@ abbrev pub scan : App
 scan = command (codes "scan") (extended ∷ gnu ∷ path ∷ [])
 
 abbrev pub why : App
-why = command (codes "why") (extended ∷ gnu ∷ file_rules ++ drop_rules ++ note_rules ++ end_rules)
+why = command (codes "why") (extended ∷ gnu ∷ file_rules ++ drop_rules ++ note_rules ++ format_rules ++ end_rules)
 
 abbrev pub who : App
 who = command (codes "who") (extended ∷ gnu ∷ file_rules ++ drop_rules ++ note_rules ++ who_rules)

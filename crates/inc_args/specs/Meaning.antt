@@ -38,12 +38,21 @@ pub record Limits : Type 0 where
   pub only : List Text
   pub costs : Option Text
 
+-- the format of an answer
+pub record Format : Type 0 where
+  -- its name, if one is given
+  pub name : Option Text
+  -- each chain is shown whole
+  pub is_all : Bool
+
 -- what is asked for in place of a cut
 pub record Forms : Type 0 where
   -- the files that hold its directives, with these blanked
   pub is_blank : Bool
   -- a diff that removes its directives
   pub is_patch : Bool
+  -- or itself, in this format
+  pub format : Format
 
 -- a preprocessing of sources of a project, without some directives
 pub record Preprocessing : Type 0 where
@@ -68,9 +77,9 @@ pub record Preprocessing : Type 0 where
 pub data Asked : Type 0 where
   -- the file; standard input where none is named
   Scan : Option Text → Asked
-  Why : Question → Asked
-  -- with the chain of each source, or without
-  Who : Question → (with_chains : Bool) → Asked
+  Why : Question → Format → Asked
+  -- with the chain of each source whole, or without
+  Who : Question → Format → Asked
   -- about sources alone
   Graph : Question → Asked
   Cut : Question → Limits → Forms → Asked
@@ -149,8 +158,12 @@ limits_in rows = record {
   costs = first_of (codes "costs") rows;
 }
 
+-- by the flag that shows chains whole
+abbrev pub format_in : (all : Text) → List Row → Format
+format_in all rows = record { name = first_of (codes "format") rows; is_all = is_given all rows }
+
 abbrev pub forms_in : List Row → Forms
-forms_in rows = record { is_blank = is_given (codes "blank") rows; is_patch = is_given (codes "patch") rows }
+forms_in rows = record { is_blank = is_given (codes "blank") rows; is_patch = is_given (codes "patch") rows; format = format_in (codes "all") rows }
 
 abbrev pub preprocessing_in : List Row → Preprocessing
 preprocessing_in rows = record {
@@ -169,8 +182,8 @@ preprocessing_in rows = record {
 -- the command of this name
 abbrev pub asked_by : Text → List Row → Asked
 asked_by name rows =
-    if bytes_eq name (codes "why") then Why (question_in rows) else
-    if bytes_eq name (codes "who") then Who (who_in rows) (is_given (codes "chains") rows) else
+    if bytes_eq name (codes "why") then Why (question_in rows) (format_in (codes "all") rows) else
+    if bytes_eq name (codes "who") then Who (who_in rows) (format_in (codes "chains") rows) else
     if bytes_eq name (codes "graph") then Graph (who_in rows) else
     if bytes_eq name (codes "cut") then Cut (question_in rows) (limits_in rows) (forms_in rows) else
     if bytes_eq name (codes "check") then Check (question_in rows) (limits_in rows) (value_of (codes "CERT") rows) else

@@ -3,13 +3,14 @@ use Rattle.std.specs.Prelude.{map, option_map}
 use Rattle.inc_args.specs.declared.requests.Arguments.{Arguments}
 use Rattle.inc_args.specs.declared.requests.FileList.{FileList}
 use Rattle.inc_args.specs.declared.requests.FormArgs.{FormArgs}
+use Rattle.inc_args.specs.declared.requests.FormatArgs.{FormatArgs}
 use Rattle.inc_args.specs.declared.requests.LanguageArgs.{LanguageArgs}
 use Rattle.inc_args.specs.declared.requests.LimitArgs.{LimitArgs}
 use Rattle.inc_args.specs.declared.requests.PpArgs.{PpArgs}
 use Rattle.inc_args.specs.declared.requests.QuestionArgs.{QuestionArgs}
 use Rattle.inc_args.specs.declared.requests.Request.{Request}
 use Rattle.inc_args.specs.declared.requests.Request.TheVariants as request
-use Rattle.inc_args.specs.Meaning.{Asked, FileWords, Forms, Languages, Limits, Meaning, Preprocessing, Question, Scan, Why, Who, Graph, Cut, Check, Pp}
+use Rattle.inc_args.specs.Meaning.{Asked, FileWords, Format, Forms, Languages, Limits, Meaning, Preprocessing, Question, Scan, Why, Who, Graph, Cut, Check, Pp}
 
 abbrev pub seen_files : FileList → FileWords
 seen_files f = record {
@@ -55,16 +56,19 @@ seen_pp p = record {
   status = option_map (λ s. s.now) p.status;
 }
 
+abbrev pub seen_format : FormatArgs → Format
+seen_format f = record { name = option_map (λ n. n.now) f.name; is_all = f.all }
+
 abbrev pub seen_forms : FormArgs → Forms
-seen_forms f = record { is_blank = f.blank; is_patch = f.patch }
+seen_forms f = record { is_blank = f.blank; is_patch = f.patch; format = seen_format f.format }
 
 abbrev pub seen_languages : LanguageArgs → Languages
 seen_languages l = record { is_extended = l.extended; is_gnu = l.gnu }
 
 abbrev pub seen_request : Request → Asked
 seen_request (request.Scan path) = Scan (option_map (λ p. p.now) path)
-seen_request (request.Why q) = Why (seen_question q)
-seen_request (request.Who q with_chains) = Who (seen_question q) with_chains
+seen_request (request.Why q f) = Why (seen_question q) (seen_format f)
+seen_request (request.Who q f) = Who (seen_question q) (seen_format f)
 seen_request (request.Graph q) = Graph (seen_question q)
 seen_request (request.Cut q l f) = Cut (seen_question q) (seen_limits l) (seen_forms f)
 seen_request (request.Check q l certificate) = Check (seen_question q) (seen_limits l) certificate.now

@@ -2,11 +2,12 @@
 ghost use Rattle.std.specs.Prelude.{◌≡◌, ◌∷◌, [], IfOk};
 ghost use Rattle.clap.specs.Words.{app_of};
 ghost use Rattle.inc_args.specs.CommandLine as line;
-ghost use Rattle.inc_args.specs.CommandLine.{end_rules, file_rules, form_rules, graph_rules, incut, limit_rules, list_rules, macro_rules, note_rules, output_rules, search_rules, who_rules, with_rules, drop_rules};
+ghost use Rattle.inc_args.specs.CommandLine.{end_rules, file_rules, form_rules, format_rules, graph_rules, incut, limit_rules, list_rules, macro_rules, note_rules, output_rules, search_rules, who_rules, with_rules, drop_rules};
 
 use crate::help::{
-    ABOUT, CHECK_NOTES, CUT_NOTES, EXAMPLES, EXTENDED_HELP, GNU_HELP, GRAPH_NOTES, HEADER_HELP,
-    PP_NOTES, SCAN_NOTES, SOURCES_HELP, TO_HELP, UNDEFINED_HELP, VERSION, WHO_NOTES, WHY_NOTES,
+    ABOUT, ALL_HELP, CHECK_NOTES, CUT_NOTES, EXAMPLES, EXTENDED_HELP, FORMAT_HELP, GNU_HELP,
+    GRAPH_NOTES, HEADER_HELP, PP_NOTES, SCAN_NOTES, SOURCES_HELP, TO_HELP, UNDEFINED_HELP, VERSION,
+    WHO_NOTES, WHY_NOTES,
 };
 use crate::options::{
     files, flag, null, option, optional_word, path, quiet, repeated, repeated_option, sources, word,
@@ -97,7 +98,7 @@ fn with_limits<'a>(alloc: Global, command: Command<'a>) -> Result<Command<'a>, A
         .arg(option(alloc, "costs", "COSTS", costs))
 }
 
-/// Adds the flags that tell what is printed of a cut.
+/// Adds the options that tell what is printed of a cut.
 fn with_forms<'a>(alloc: Global, command: Command<'a>) -> Result<Command<'a>, AllocError>
     ensures { IfOk result (λ c. app_of c ≡ with_rules (app_of command.entry) form_rules) }
 {
@@ -105,7 +106,18 @@ fn with_forms<'a>(alloc: Global, command: Command<'a>) -> Result<Command<'a>, Al
     let patch = "Print a diff that removes the cut's directives; not with --blank";
     command
         .arg(flag(alloc, "blank", blank))?
-        .arg(flag(alloc, "patch", patch))
+        .arg(flag(alloc, "patch", patch))?
+        .arg(option(alloc, "format", "FORMAT", FORMAT_HELP))?
+        .arg(flag(alloc, "all", ALL_HELP))
+}
+
+/// Adds the options that tell in which format an answer is printed.
+fn with_format<'a>(alloc: Global, command: Command<'a>) -> Result<Command<'a>, AllocError>
+    ensures { IfOk result (λ c. app_of c ≡ with_rules (app_of command.entry) format_rules) }
+{
+    command
+        .arg(option(alloc, "format", "FORMAT", FORMAT_HELP))?
+        .arg(flag(alloc, "all", ALL_HELP))
 }
 
 /// Adds the options that tell which macros are defined, what is done without a header, and whether lines are marked.
@@ -150,7 +162,7 @@ fn with_ends<'a>(alloc: Global, command: Command<'a>) -> Result<Command<'a>, All
         .arg(optional_word(alloc, "HEADER", HEADER_HELP))
 }
 
-/// Adds what names the headers and the sources, which need not be named, and whether chains are printed.
+/// Adds what names the headers and the sources, which need not be named, and how the answer is printed.
 fn with_who<'a>(alloc: Global, command: Command<'a>) -> Result<Command<'a>, AllocError>
     ensures { IfOk result (λ c. app_of c ≡ with_rules (app_of command.entry) who_rules) }
 {
@@ -158,6 +170,7 @@ fn with_who<'a>(alloc: Global, command: Command<'a>) -> Result<Command<'a>, Allo
     command
         .arg(repeated_option(alloc, "undefined", "NAME", UNDEFINED_HELP))?
         .arg(flag(alloc, "chains", chains))?
+        .arg(option(alloc, "format", "FORMAT", FORMAT_HELP))?
         .arg(repeated_option(alloc, "from", "GLOB", SOURCES_HELP))?
         .arg(repeated_option(alloc, "to", "GLOB", TO_HELP))?
         .arg(optional_word(alloc, "HEADER", HEADER_HELP))
@@ -194,7 +207,8 @@ fn why<'a>(alloc: Global) -> Result<Command<'a>, AllocError>
         WHY_NOTES,
     )?;
     let command = with_drop(alloc, with_files(alloc, command)?)?;
-    with_ends(alloc, with_notes(alloc, command)?)
+    let command = with_format(alloc, with_notes(alloc, command)?)?;
+    with_ends(alloc, command)
 }
 
 fn who<'a>(alloc: Global) -> Result<Command<'a>, AllocError>

@@ -22,6 +22,11 @@ pub(crate) const UNDEFINED_HELP: &str = "Assume that no build defines the macro 
 pub(crate) const HEADER_HELP: &str =
     "Header to look for, by its path, its name in an include, or the end of its path";
 
+pub(crate) const FORMAT_HELP: &str =
+    "Print the answer as `text`, for scripts, or as `gcc`, each directive at its file and line [default: gcc on a terminal, else text]";
+
+pub(crate) const ALL_HELP: &str = "With the format gcc, show every chain in full";
+
 pub(crate) const EXAMPLES: &str = "Examples:
   incut < main.c
       List the include directives of standard input.

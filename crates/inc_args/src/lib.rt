@@ -13,5 +13,6 @@ pub use compiler_words::as_options;
 pub use faults::ArgsFault;
 pub use reading::read_args;
 pub use requests::{
-    Arguments, FileList, FormArgs, LanguageArgs, LimitArgs, PpArgs, QuestionArgs, Request,
+    Arguments, FileList, FormArgs, FormatArgs, LanguageArgs, LimitArgs, PpArgs, QuestionArgs,
+    Request,
 };

@@ -4,14 +4,15 @@ ghost use Rattle.std.specs.Option.{option_map_or};
 ghost use Rattle.std.specs.String.{string_bytes};
 ghost use Rattle.clap.specs.Words.{all_of, first_of, found_of, rows_of, subcommand_rows_of};
 ghost use Rattle.inc_args.specs.Meaning as meaning;
-ghost use Rattle.inc_args.specs.Meaning.{asked_by, files_in, forms_in, is_given_in, languages_in, limits_in, meaning, meaning_of, preprocessing_in, question_in, value_of, values_of, who_in};
+ghost use Rattle.inc_args.specs.Meaning.{asked_by, files_in, format_in, forms_in, is_given_in, languages_in, limits_in, meaning, meaning_of, preprocessing_in, question_in, value_of, values_of, who_in};
 ghost use Rattle.inc_args.specs.Refusals.{IsRefusal, refusals};
-ghost use Rattle.inc_args.specs.Views.{seen_arguments, seen_files, seen_forms, seen_languages, seen_limits, seen_pp, seen_question, seen_request};
+ghost use Rattle.inc_args.specs.Views.{seen_arguments, seen_files, seen_format, seen_forms, seen_languages, seen_limits, seen_pp, seen_question, seen_request};
 
 use crate::commands::incut;
 use crate::faults::{ArgsFault, fault_of};
 use crate::requests::{
-    Arguments, FileList, FormArgs, LanguageArgs, LimitArgs, PpArgs, QuestionArgs, Request,
+    Arguments, FileList, FormArgs, FormatArgs, LanguageArgs, LimitArgs, PpArgs, QuestionArgs,
+    Request,
 };
 use clap::ArgMatches;
 use std::alloc::{AllocError, Global};
@@ -86,8 +87,8 @@ fn read_request<'a>(
     ensures { IfOk result (λ r. seen_request r ≡ asked_by name.now (rows_of (found_of matches.now))) }
 {
     match name {
-        "why" => Ok(Request::Why(read_question(alloc, matches)?)),
-        "who" => Ok(Request::Who(read_who(alloc, matches)?, is_given(matches, "chains"))),
+        "why" => Ok(Request::Why(read_question(alloc, matches)?, read_format(matches, "all"))),
+        "who" => Ok(Request::Who(read_who(alloc, matches)?, read_format(matches, "chains"))),
         "graph" => Ok(Request::Graph(read_who(alloc, matches)?)),
         "cut" => Ok(Request::Cut(
             read_question(alloc, matches)?,
@@ -174,12 +175,23 @@ fn read_limits<'a>(alloc: Global, matches: &ArgMatches<'a>) -> Result<LimitArgs<
     })
 }
 
-fn read_forms(matches: &ArgMatches<'_>) -> FormArgs
+/// The format of an answer, by the flag that shows chains whole.
+fn read_format<'a>(matches: &ArgMatches<'a>, all: &str) -> FormatArgs<'a>
+    ensures { seen_format result ≡ format_in all.now (rows_of (found_of matches.now)) }
+{
+    FormatArgs {
+        name: given(matches, "format"),
+        all: is_given(matches, all),
+    }
+}
+
+fn read_forms<'a>(matches: &ArgMatches<'a>) -> FormArgs<'a>
     ensures { seen_forms result ≡ forms_in (rows_of (found_of matches.now)) }
 {
     FormArgs {
         blank: is_given(matches, "blank"),
         patch: is_given(matches, "patch"),
+        format: read_format(matches, "all"),
     }
 }
 

@@ -28,13 +28,13 @@ pub enum Request<'a> {
     /// List the include directives of this file; of standard input where there is none.
     Scan(Option<&'a str>),
     /// Explain why a source includes a header.
-    Why(QuestionArgs<'a>),
-    /// List the sources that reach a header, with their chains or without.
-    Who(QuestionArgs<'a>, bool),
+    Why(QuestionArgs<'a>, FormatArgs<'a>),
+    /// List the sources that reach a header, with their chains whole or without.
+    Who(QuestionArgs<'a>, FormatArgs<'a>),
     /// List the edges that sources reach.
     Graph(QuestionArgs<'a>),
     /// Find the fewest include directives to remove so that a source no longer includes a header.
-    Cut(QuestionArgs<'a>, LimitArgs<'a>, FormArgs),
+    Cut(QuestionArgs<'a>, LimitArgs<'a>, FormArgs<'a>),
     /// Check this certificate of such a cut.
     Check(QuestionArgs<'a>, LimitArgs<'a>, &'a str),
     /// Preprocess sources.
@@ -94,11 +94,22 @@ pub struct LimitArgs<'a> {
 
 /// What is asked for in place of a cut.
 #[derive(Clone, Copy, Drop)]
-pub struct FormArgs {
+pub struct FormArgs<'a> {
     /// The files that hold its directives, with these blanked.
     pub blank: bool,
     /// A diff that removes its directives.
     pub patch: bool,
+    /// The format of its answer.
+    pub format: FormatArgs<'a>,
+}
+
+/// The words of the format of an answer.
+#[derive(Clone, Copy, Drop)]
+pub struct FormatArgs<'a> {
+    /// The name of the format, if one is given.
+    pub name: Option<&'a str>,
+    /// Whether each chain is shown whole.
+    pub all: bool,
 }
 
 /// The words of a preprocessing of sources of a project.

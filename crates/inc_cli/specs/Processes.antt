@@ -1,5 +1,5 @@
 -- What a run of the program comes to: the command line, what is read and written, and the exit status.
-use Rattle.std.specs.Prelude.{◌≡◌, ◌≢◌, ℕ, Bool, List, [], Result, Ok, Err, false, if◌then◌else◌}
+use Rattle.std.specs.Prelude.{◌≡◌, ◌≢◌, ℕ, Bool, List, [], Result, Ok, Err, true, false, if◌then◌else◌, bytes_eq, codes, is_some, unwrap_or}
 use Rattle.std.specs.Io.KnownBytes.{Appends, Keeps}
 use Rattle.clap.specs.Words.{IsAmong, kind_of}
 use Rattle.inc_text.specs.Devices.{AppendsFront}
@@ -8,13 +8,15 @@ use Rattle.inc_args.specs.Meaning as args
 use Rattle.inc_args.specs.Meaning.{Meaning, meaning}
 use Rattle.inc_args.specs.Refusals.{refusals}
 use Rattle.inc_inputs.specs.Inputs.{Begins, Gives, Puts}
+use Rattle.inc_report.specs.declared.named.Asked.{Asked}
+use Rattle.inc_report.specs.declared.named.Asked.TheVariants as asked
 use Rattle.inc_cli.specs.Languages.{language_of}
 use Rattle.inc_cli.specs.Notes.{notes_if}
 use Rattle.inc_cli.specs.Outputs.{Answer, Follows, IsRun, Output}
 use Rattle.inc_cli.specs.Preprocessings.{IsPreprocessed, pp_of}
-use Rattle.inc_cli.specs.Questions.{Blank, Check, Command, Cut, Graph, IsAnswered, IsPrinted, IsPromised, Opens, Patch, Who, Why, certificate_of, has_headers}
+use Rattle.inc_cli.specs.Questions.{Blank, Check, Command, Cut, Graph, IsAnswered, IsPrinted, IsPromised, Named, Opens, Patch, Who, Why, certificate_of, has_headers}
 use Rattle.inc_inputs.specs.Ends.{are_ends}
-use Rattle.inc_inputs.specs.Reports.{Report, no_headers, report_line, two_forms}
+use Rattle.inc_inputs.specs.Reports.{Report, format_of_files, no_format, no_headers, report_line, two_forms}
 use Rattle.inc_cli.specs.Runs.{asked_of, no_limits}
 use Rattle.inc_cli.specs.Scans.{IsScan}
 use Rattle.inc_cli.specs.Statuses.{status_of}
@@ -29,23 +31,44 @@ abbrev pub IsAsked : {S T : Type 0} → Gives S → Opens S T → Language → C
 IsAsked gives o language command q l =
     IsRun (asked_of gives language (has_headers command) q l (certificate_of command)) (IsAnswered gives (IsPrinted gives o command) command q)
 
--- the form of a cut that flags ask for, of which they may ask for one
-abbrev pub form_of : args.Forms → Result Command Report
-form_of f = if f.is_blank then (if f.is_patch then Err two_forms else Ok Blank) else if f.is_patch then Ok Patch else Ok Cut
+-- the command whose answer is printed in a format: the text of old, or with directives as they are written
+abbrev pub in_format : (name : List ℕ) → (all : Bool) → (text : Command) → Asked → Result Command Report
+in_format name all text asked =
+    if bytes_eq name (codes "text") then Ok text else if bytes_eq name (codes "gcc") then Ok (Named asked all) else Err no_format
+
+-- where none is named, on a terminal with directives as they are written
+abbrev pub default_format : (is_terminal : Bool) → List ℕ
+default_format true = codes "gcc"
+default_format false = codes "text"
+
+abbrev pub formatted : (is_terminal : Bool) → args.Format → (text : Command) → Asked → Result Command Report
+formatted is_terminal f text asked = in_format (unwrap_or f.name (default_format is_terminal)) f.is_all text asked
+
+-- the form of a cut that flags ask for, of which they may ask for one, which has no other format
+abbrev pub of_files : args.Format → Command → Result Command Report
+of_files f command = if is_some f.name then Err format_of_files else Ok command
+
+abbrev pub form_of : (is_terminal : Bool) → args.Forms → Result Command Report
+form_of is_terminal f =
+    if f.is_blank then (if f.is_patch then Err two_forms else of_files f.format Blank)
+    else if f.is_patch then of_files f.format Patch else formatted is_terminal f.format Cut asked.Cut
 
 -- which sources reach the headers that words name
-abbrev pub who_of : args.Question → (with_chains : Bool) → Result Command Report
-who_of q with_chains = if are_ends q then Ok (Who with_chains) else Err no_headers
+abbrev pub who_of : (is_terminal : Bool) → args.Question → args.Format → Result Command Report
+who_of is_terminal q f = if are_ends q then formatted is_terminal f (Who f.is_all) asked.Who else Err no_headers
 
 -- what words ask for is answered
-abbrev pub IsAnswerTo : {S T : Type 0} → Gives S → Puts S → Opens S T → Language → args.Asked → (old : S) → Output → Result Answer Report → Type 0
-IsAnswerTo gives puts o language (args.Scan path) old out answer = IsScan gives language path old out answer
-IsAnswerTo gives puts o language (args.Why q) old out answer = IsAsked gives o language Why q no_limits old out answer
-IsAnswerTo gives puts o language (args.Who q with_chains) old out answer = Follows (λ command. IsAsked gives o language command q no_limits) (who_of q with_chains) old out answer
-IsAnswerTo gives puts o language (args.Graph q) old out answer = IsAsked gives o language Graph q no_limits old out answer
-IsAnswerTo gives puts o language (args.Cut q l f) old out answer = Follows (λ command. IsAsked gives o language command q l) (form_of f) old out answer
-IsAnswerTo gives puts o language (args.Check q l name) old out answer = IsAsked gives o language (Check name) q l old out answer
-IsAnswerTo gives puts o language (args.Pp p) old out answer = IsRun (pp_of gives language p) (IsPreprocessed gives puts p) old out answer
+abbrev pub IsAnswerTo : {S T : Type 0} → Gives S → Puts S → Opens S T → Language → (is_terminal : Bool) → args.Asked → (old : S) → Output → Result Answer Report → Type 0
+IsAnswerTo gives puts o language is_terminal (args.Scan path) old out answer = IsScan gives language path old out answer
+IsAnswerTo gives puts o language is_terminal (args.Why q f) old out answer =
+    Follows (λ command. IsAsked gives o language command q no_limits) (formatted is_terminal f Why asked.Why) old out answer
+IsAnswerTo gives puts o language is_terminal (args.Who q f) old out answer =
+    Follows (λ command. IsAsked gives o language command q no_limits) (who_of is_terminal q f) old out answer
+IsAnswerTo gives puts o language is_terminal (args.Graph q) old out answer = IsAsked gives o language Graph q no_limits old out answer
+IsAnswerTo gives puts o language is_terminal (args.Cut q l f) old out answer =
+    Follows (λ command. IsAsked gives o language command q l) (form_of is_terminal f) old out answer
+IsAnswerTo gives puts o language is_terminal (args.Check q l name) old out answer = IsAsked gives o language (Check name) q l old out answer
+IsAnswerTo gives puts o language is_terminal (args.Pp p) old out answer = IsRun (pp_of gives language p) (IsPreprocessed gives puts p) old out answer
 
 -- what is promised of a question that is asked with a command
 abbrev pub IsKept : {S T : Type 0} → Gives S → Opens S T → Language → Command → args.Question → args.Limits → (old : S) → Output
@@ -54,10 +77,11 @@ IsKept gives o language command q l =
     IsRun (asked_of gives language (has_headers command) q l (certificate_of command)) (IsAnswered gives (IsPromised gives o command) command q)
 
 -- a cut that is printed, and a certificate that is accepted, keep what they promise
-abbrev pub IsPromiseOf : {S T : Type 0} → Gives S → Opens S T → Language → args.Asked → (old : S) → Output → Result Answer Report → Type 0
-IsPromiseOf gives o language (args.Cut q l f) old out answer = Follows (λ command. IsKept gives o language command q l) (form_of f) old out answer
-IsPromiseOf gives o language (args.Check q l name) old out answer = IsKept gives o language (Check name) q l old out answer
-IsPromiseOf gives o language asked old out answer = Unit {0}
+abbrev pub IsPromiseOf : {S T : Type 0} → Gives S → Opens S T → Language → (is_terminal : Bool) → args.Asked → (old : S) → Output → Result Answer Report → Type 0
+IsPromiseOf gives o language is_terminal (args.Cut q l f) old out answer =
+    Follows (λ command. IsKept gives o language command q l) (form_of is_terminal f) old out answer
+IsPromiseOf gives o language is_terminal (args.Check q l name) old out answer = IsKept gives o language (Check name) q l old out answer
+IsPromiseOf gives o language is_terminal what old out answer = Unit {0}
 
 ---- the end
 
@@ -89,17 +113,18 @@ IsToldRun quiet P messages (Usage error) = Unit {0}
 IsToldRun quiet P messages (Status n) = n ≢ 5 → (answer : Result Answer Report) × IsTold quiet answer n messages × P answer
 
 -- what the words ask for is answered, once it is set whether links are followed
-abbrev pub IsAnswerFrom : {S T : Type 0} → Gives S → Puts S → Opens S T → Meaning → (old : S) → Output → Result Answer Report → Type 0
-IsAnswerFrom gives puts o m old out answer = Follows (λ language. IsAnswerTo gives puts o language m.asked) (language_of m.languages) old out answer
+abbrev pub IsAnswerFrom : {S T : Type 0} → Gives S → Puts S → Opens S T → (is_terminal : Bool) → Meaning → (old : S) → Output → Result Answer Report → Type 0
+IsAnswerFrom gives puts o is_terminal m old out answer =
+    Follows (λ language. IsAnswerTo gives puts o language is_terminal m.asked) (language_of m.languages) old out answer
 
-abbrev pub IsPromiseFrom : {S T : Type 0} → Gives S → Opens S T → Meaning → (old : S) → Output → Result Answer Report → Type 0
-IsPromiseFrom gives o m old out answer = Follows (λ language. IsPromiseOf gives o language m.asked) (language_of m.languages) old out answer
+abbrev pub IsPromiseFrom : {S T : Type 0} → Gives S → Opens S T → (is_terminal : Bool) → Meaning → (old : S) → Output → Result Answer Report → Type 0
+IsPromiseFrom gives o is_terminal m old out answer = Follows (λ language. IsPromiseOf gives o language is_terminal m.asked) (language_of m.languages) old out answer
 
 -- that is set first
-abbrev pub IsAnswer : {S T : Type 0} → Begins S → Gives S → Puts S → Opens S T → Meaning → (old : S) → Output → Result Answer Report → Type 0
-IsAnswer {S} begins gives puts o m old out answer =
-    (first : S) × begins old m.follows first × IsAnswerFrom gives puts o m first out answer
+abbrev pub IsAnswer : {S T : Type 0} → Begins S → Gives S → Puts S → Opens S T → (is_terminal : Bool) → Meaning → (old : S) → Output → Result Answer Report → Type 0
+IsAnswer {S} begins gives puts o is_terminal m old out answer =
+    (first : S) × begins old m.follows first × IsAnswerFrom gives puts o is_terminal m first out answer
 
-abbrev pub IsPromise : {S T : Type 0} → Begins S → Gives S → Opens S T → Meaning → (old : S) → Output → Result Answer Report → Type 0
-IsPromise {S} begins gives o m old out answer =
-    (first : S) × begins old m.follows first × IsPromiseFrom gives o m first out answer
+abbrev pub IsPromise : {S T : Type 0} → Begins S → Gives S → Opens S T → (is_terminal : Bool) → Meaning → (old : S) → Output → Result Answer Report → Type 0
+IsPromise {S} begins gives o is_terminal m old out answer =
+    (first : S) × begins old m.follows first × IsPromiseFrom gives o is_terminal m first out answer

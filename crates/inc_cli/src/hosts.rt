@@ -12,7 +12,7 @@ use inc_text::{ByteSink, ByteSource, DeviceFault, ReadFault, read_file};
 use std::alloc::{AllocError, Global};
 use std::cell::Cell;
 use std::fs::File;
-use std::io::{Error, ErrorKind, Read, Write};
+use std::io::{Error, ErrorKind, IsTerminal, Read, Write};
 use std::random::RandomSource;
 use std::{env, fs, io, str};
 
@@ -341,7 +341,17 @@ fn run_words<E: ByteSink + Drop>(
     let seed = new_seed(rt);
     let hindrance = Cell::new(Hindrance::Other);
     let inputs = HostInputs::new(rt, seed, &hindrance);
-    let (ended, _out, messages) = run(rt.alloc(), seed, words, inputs, &hindrance, out, messages);
+    let is_terminal = rt.stdout().is_terminal();
+    let (ended, _out, messages) = run(
+        rt.alloc(),
+        seed,
+        words,
+        is_terminal,
+        inputs,
+        &hindrance,
+        out,
+        messages,
+    );
     match ended {
         Ended::Status(status) => status,
         Ended::Usage(error) => print_usage(rt, &error, messages),

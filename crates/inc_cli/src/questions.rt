@@ -26,8 +26,8 @@ use inc_inputs::{
 };
 use inc_lookup::{NamedDir, Project};
 use inc_report::{
-    End, Limits, Question, RunFault, run_blank, run_check, run_cut, run_graph, run_patch, run_who,
-    run_why,
+    Asked, End, Limits, NamedForm, Question, RunFault, run_blank, run_check, run_cut, run_graph,
+    run_named, run_patch, run_who, run_why,
 };
 use inc_text::ByteSink;
 use std::alloc::Global;
@@ -47,6 +47,9 @@ pub(crate) enum Command<'a> {
     Blank,
     /// For the diff that removes its directives.
     Patch,
+    /// Why the sources include the headers, or which directives to remove, with directives as they are written, and with each chain whole or
+    /// without.
+    Named(Asked, bool),
     /// Whether the certificate that this word names shows a smallest cut.
     Check(&'a str),
 }
@@ -321,6 +324,11 @@ fn answer<I: Inputs, O: ByteSink>(
         }
         Command::Patch => {
             let (ended, _, out) = run_patch(alloc, project, files, question, limits, out);
+            (ended, out)
+        }
+        Command::Named(asked, all) => {
+            let form = NamedForm { asked, all };
+            let (ended, _, out) = run_named(alloc, project, files, question, limits, form, out);
             (ended, out)
         }
         Command::Check(name) => match files.inputs.open(alloc, name) {

@@ -3,9 +3,9 @@ ghost use Rattle.std.specs.Prelude.{◌≡◌, ◌≢◌, Err, false, map, optio
 ghost use Rattle.std.specs.String.{string_bytes};
 ghost use Rattle.inc_args.specs.CompilerWords.{as_options};
 ghost use Rattle.inc_args.specs.Meaning.{meaning};
-ghost use Rattle.inc_args.specs.Views.{seen_arguments, seen_forms, seen_languages, seen_question, seen_request};
+ghost use Rattle.inc_args.specs.Views.{seen_arguments, seen_format, seen_forms, seen_languages, seen_question, seen_request};
 ghost use Rattle.inc_cli.specs.Languages.{language_of};
-ghost use Rattle.inc_cli.specs.Processes.{form_of, who_of, IsAnswer, IsAnswerFrom, IsAnswerTo, IsPromise, IsPromiseFrom, IsPromiseOf, IsRefusedRun, IsTold, IsToldRun};
+ghost use Rattle.inc_cli.specs.Processes.{default_format, form_of, formatted, of_files, who_of, IsAnswer, IsAnswerFrom, IsAnswerTo, IsPromise, IsPromiseFrom, IsPromiseOf, IsRefusedRun, IsTold, IsToldRun};
 ghost use Rattle.inc_inputs.specs.Reports.{out_of_memory};
 ghost use Rattle.inc_cli.specs.Views.{output_of, seen_command, seen_end};
 ghost use Rattle.inc_inputs.specs.Views.{seen};
@@ -18,10 +18,11 @@ use crate::reports::report;
 use crate::scan::list_directives;
 use clap::Error;
 use inc_args::{
-    ArgsFault, Arguments, FormArgs, LanguageArgs, LimitArgs, QuestionArgs, Request, as_options,
-    read_args,
+    ArgsFault, Arguments, FormArgs, FormatArgs, LanguageArgs, LimitArgs, QuestionArgs, Request,
+    as_options, read_args,
 };
 use inc_inputs::{Failure, Hindrance, Inputs, are_ends};
+use inc_report::Asked;
 use inc_text::{ByteSink, Language};
 use std::alloc::Global;
 use std::cell::Cell;
@@ -34,6 +35,8 @@ pub(crate) struct Setup<'s> {
     pub(crate) seed: u64,
     /// The language of the files.
     pub(crate) language: Language,
+    /// Whether the answer is printed on a terminal.
+    pub(crate) is_terminal: bool,
     /// What stood in the way of the file of the list that was not read.
     pub(crate) hindrance: &'s Cell<Hindrance>,
 }
@@ -49,11 +52,12 @@ pub enum Ended {
 
 /// Runs the command that the words ask for, the name of the program first; some may be spelled as compilers have them. Its answer goes to
 /// `out`, and the report of a failure, or the notes beside an answer, to `messages`. Tables are hashed with the seed, so whoever writes the
-/// files must not know it. Where the inputs do not read a file of the list, `hindrance` holds what stood in its way.
+/// files must not know it. On a terminal an answer is printed in another format, where none is named. Where the inputs do not read a file of the list, `hindrance` holds what stood in its way.
 pub fn run<I: Inputs, O: ByteSink, E: ByteSink>(
     alloc: Global,
     seed: u64,
     words: &[String],
+    is_terminal: bool,
     inputs: I,
     hindrance: &Cell<Hindrance>,
     out: O,
@@ -65,19 +69,28 @@ pub fn run<I: Inputs, O: ByteSink, E: ByteSink>(
         (output_of (O.written out) (O.written result.1) (O.has_failed result.1))
         (output_of (E.written messages) (E.written result.2) (E.has_failed result.2)) result.0 }
     ensures answered { let m = meaning (as_options (map string_bytes words.now)) in
-        IsToldRun m.is_quiet (IsAnswer I.begins I.gives I.puts (record { opens = I.opens; left = I.Stream.left }) m inputs
+        IsToldRun m.is_quiet (IsAnswer I.begins I.gives I.puts (record { opens = I.opens; left = I.Stream.left }) is_terminal m inputs
         (output_of (O.written out) (O.written result.1) (O.has_failed result.1)))
         (output_of (E.written messages) (E.written result.2) (E.has_failed result.2)) result.0 }
     // What a cut promises: no preprocessing of the source that the words name reads their header, and nothing cheaper separates.
     ensures promised { let m = meaning (as_options (map string_bytes words.now)) in
-        IsToldRun m.is_quiet (IsPromise I.begins I.gives (record { opens = I.opens; left = I.Stream.left }) m inputs
+        IsToldRun m.is_quiet (IsPromise I.begins I.gives (record { opens = I.opens; left = I.Stream.left }) is_terminal m inputs
         (output_of (O.written out) (O.written result.1) (O.has_failed result.1)))
         (output_of (E.written messages) (E.written result.2) (E.has_failed result.2)) result.0 }
 {
     match as_options(alloc, words) {
         Ok(options) => {
             let words = taken(&options, words);
-            run_options(alloc, seed, words, inputs, hindrance, out, messages)
+            run_options(
+                alloc,
+                seed,
+                words,
+                is_terminal,
+                inputs,
+                hindrance,
+                out,
+                messages,
+            )
         }
         Err(_) => {
             let (status, messages) = tell(&Err(Failure::NoMemory), false, messages);
@@ -102,6 +115,7 @@ fn run_options<I: Inputs, O: ByteSink, E: ByteSink>(
     alloc: Global,
     seed: u64,
     words: &[String],
+    is_terminal: bool,
     inputs: I,
     hindrance: &Cell<Hindrance>,
     out: O,
@@ -113,17 +127,17 @@ fn run_options<I: Inputs, O: ByteSink, E: ByteSink>(
         (output_of (O.written out) (O.written result.1) (O.has_failed result.1))
         (output_of (E.written messages) (E.written result.2) (E.has_failed result.2)) result.0 }
     ensures answered { let m = meaning (map string_bytes words.now) in
-        IsToldRun m.is_quiet (IsAnswer I.begins I.gives I.puts (record { opens = I.opens; left = I.Stream.left }) m inputs
+        IsToldRun m.is_quiet (IsAnswer I.begins I.gives I.puts (record { opens = I.opens; left = I.Stream.left }) is_terminal m inputs
         (output_of (O.written out) (O.written result.1) (O.has_failed result.1)))
         (output_of (E.written messages) (E.written result.2) (E.has_failed result.2)) result.0 }
     ensures promised { let m = meaning (map string_bytes words.now) in
-        IsToldRun m.is_quiet (IsPromise I.begins I.gives (record { opens = I.opens; left = I.Stream.left }) m inputs
+        IsToldRun m.is_quiet (IsPromise I.begins I.gives (record { opens = I.opens; left = I.Stream.left }) is_terminal m inputs
         (output_of (O.written out) (O.written result.1) (O.has_failed result.1)))
         (output_of (E.written messages) (E.written result.2) (E.has_failed result.2)) result.0 }
 {
     match read_args(alloc, words) {
         Ok(args) => {
-            let (ended, out) = answer(alloc, seed, &args, inputs, hindrance, out);
+            let (ended, out) = answer(alloc, seed, &args, is_terminal, inputs, hindrance, out);
             let (status, messages) = tell(&ended, args.is_quiet, messages);
             (Ended::Status(status), out, messages)
         }
@@ -140,21 +154,22 @@ fn answer<I: Inputs, O: ByteSink>(
     alloc: Global,
     seed: u64,
     args: &Arguments<'_>,
+    is_terminal: bool,
     inputs: I,
     hindrance: &Cell<Hindrance>,
     out: O,
 ) -> (Result<Answer, Failure>, O)
     requires { O.has_failed out ≡ false }
     ensures answered { seen_end result.0 ≢ Err out_of_memory →
-        IsAnswer I.begins I.gives I.puts (record { opens = I.opens; left = I.Stream.left }) (seen_arguments args.now) inputs
+        IsAnswer I.begins I.gives I.puts (record { opens = I.opens; left = I.Stream.left }) is_terminal (seen_arguments args.now) inputs
         (output_of (O.written out) (O.written result.1) (O.has_failed result.1)) (seen_end result.0) }
     ensures promised { seen_end result.0 ≢ Err out_of_memory →
-        IsPromise I.begins I.gives (record { opens = I.opens; left = I.Stream.left }) (seen_arguments args.now) inputs
+        IsPromise I.begins I.gives (record { opens = I.opens; left = I.Stream.left }) is_terminal (seen_arguments args.now) inputs
         (output_of (O.written out) (O.written result.1) (O.has_failed result.1)) (seen_end result.0) }
 {
     let mut inputs = inputs;
     inputs.begin(args.follows);
-    answer_from(alloc, seed, args, inputs, hindrance, out)
+    answer_from(alloc, seed, args, is_terminal, inputs, hindrance, out)
 }
 
 /// The same once it is set whether links are followed.
@@ -162,16 +177,17 @@ fn answer_from<I: Inputs, O: ByteSink>(
     alloc: Global,
     seed: u64,
     args: &Arguments<'_>,
+    is_terminal: bool,
     inputs: I,
     hindrance: &Cell<Hindrance>,
     out: O,
 ) -> (Result<Answer, Failure>, O)
     requires { O.has_failed out ≡ false }
     ensures answered { seen_end result.0 ≢ Err out_of_memory →
-        IsAnswerFrom I.gives I.puts (record { opens = I.opens; left = I.Stream.left }) (seen_arguments args.now) inputs
+        IsAnswerFrom I.gives I.puts (record { opens = I.opens; left = I.Stream.left }) is_terminal (seen_arguments args.now) inputs
         (output_of (O.written out) (O.written result.1) (O.has_failed result.1)) (seen_end result.0) }
     ensures promised { seen_end result.0 ≢ Err out_of_memory →
-        IsPromiseFrom I.gives (record { opens = I.opens; left = I.Stream.left }) (seen_arguments args.now) inputs
+        IsPromiseFrom I.gives (record { opens = I.opens; left = I.Stream.left }) is_terminal (seen_arguments args.now) inputs
         (output_of (O.written out) (O.written result.1) (O.has_failed result.1)) (seen_end result.0) }
 {
     match language_of(args.languages) {
@@ -180,6 +196,7 @@ fn answer_from<I: Inputs, O: ByteSink>(
                 alloc,
                 seed,
                 language,
+                is_terminal,
                 hindrance,
             };
             answer_in(&setup, &args.request, inputs, out)
@@ -197,10 +214,10 @@ fn answer_in<I: Inputs, O: ByteSink>(
 ) -> (Result<Answer, Failure>, O)
     requires { O.has_failed out ≡ false }
     ensures answered { seen_end result.0 ≢ Err out_of_memory →
-        IsAnswerTo I.gives I.puts (record { opens = I.opens; left = I.Stream.left }) setup.now.language (seen_request request.now) inputs
+        IsAnswerTo I.gives I.puts (record { opens = I.opens; left = I.Stream.left }) setup.now.language setup.now.is_terminal (seen_request request.now) inputs
         (output_of (O.written out) (O.written result.1) (O.has_failed result.1)) (seen_end result.0) }
     ensures promised { seen_end result.0 ≢ Err out_of_memory →
-        IsPromiseOf I.gives (record { opens = I.opens; left = I.Stream.left }) setup.now.language (seen_request request.now) inputs
+        IsPromiseOf I.gives (record { opens = I.opens; left = I.Stream.left }) setup.now.language setup.now.is_terminal (seen_request request.now) inputs
         (output_of (O.written out) (O.written result.1) (O.has_failed result.1)) (seen_end result.0) }
 {
     let no_limits = LimitArgs {
@@ -211,15 +228,20 @@ fn answer_in<I: Inputs, O: ByteSink>(
     };
     match request {
         Request::Scan(path) => list_directives(setup, *path, inputs, out),
-        Request::Why(question) => ask(setup, Command::Why, question, &no_limits, inputs, out),
-        Request::Who(question, with_chains) => match who_of(question, *with_chains) {
+        Request::Why(question, format) => {
+            match formatted(setup.is_terminal, *format, Command::Why, Asked::Why) {
+                Ok(command) => ask(setup, command, question, &no_limits, inputs, out),
+                Err(failure) => (Err(failure), out),
+            }
+        }
+        Request::Who(question, format) => match who_of(setup.is_terminal, question, *format) {
             Ok(command) => ask(setup, command, question, &no_limits, inputs, out),
             Err(failure) => (Err(failure), out),
         },
         Request::Graph(question) => {
             ask(setup, Command::Graph, question, &no_limits, inputs, out)
         }
-        Request::Cut(question, limits, forms) => match form_of(*forms) {
+        Request::Cut(question, limits, forms) => match form_of(setup.is_terminal, *forms) {
             Ok(command) => {
                 keep_large_blocks(setup.alloc);
                 ask(setup, command, question, limits, inputs, out)
@@ -236,25 +258,66 @@ fn answer_in<I: Inputs, O: ByteSink>(
 }
 
 /// Which sources reach the headers that words name, if they name some in one way.
-fn who_of(question: &QuestionArgs<'_>, with_chains: bool) -> Result<Command<'static>, Failure>
-    ensures { seen seen_command result ≡ who_of (seen_question question.now) with_chains }
+fn who_of(
+    is_terminal: bool,
+    question: &QuestionArgs<'_>,
+    format: FormatArgs<'_>,
+) -> Result<Command<'static>, Failure>
+    ensures { seen seen_command result ≡ who_of is_terminal (seen_question question.now) (seen_format format.entry) }
 {
     if are_ends(question) {
-        return Ok(Command::Who(with_chains));
+        return formatted(is_terminal, format, Command::Who(format.all), Asked::Who);
     }
     Err(Failure::NoHeaders)
 }
 
-/// The command of a cut in the form that is asked for; `--blank` and `--patch` exclude each other.
-fn form_of(asked: FormArgs) -> Result<Command<'static>, Failure>
-    ensures { seen seen_command result ≡ form_of (seen_forms asked) }
+/// The command of a cut in the form that is asked for; `--blank` and `--patch` exclude each other and a format.
+fn form_of(is_terminal: bool, asked: FormArgs<'_>) -> Result<Command<'static>, Failure>
+    ensures { seen seen_command result ≡ form_of is_terminal (seen_forms asked.entry) }
 {
     match (asked.blank, asked.patch) {
         (true, true) => Err(Failure::TwoForms),
-        (true, false) => Ok(Command::Blank),
-        (false, true) => Ok(Command::Patch),
-        (false, false) => Ok(Command::Cut),
+        (true, false) => of_files(asked.format, Command::Blank),
+        (false, true) => of_files(asked.format, Command::Patch),
+        (false, false) => formatted(is_terminal, asked.format, Command::Cut, Asked::Cut),
     }
+}
+
+/// The command whose answer is files or a diff, which has no other format.
+fn of_files(format: FormatArgs<'_>, command: Command<'static>) -> Result<Command<'static>, Failure>
+    ensures { seen seen_command result ≡ of_files (seen_format format.entry) (seen_command command.entry) }
+{
+    match format.name {
+        Some(_) => Err(Failure::FormatOfFiles),
+        None => Ok(command),
+    }
+}
+
+/// The command whose answer is in a format: the text of this one, or with directives as they are written. Where no format is named, these
+/// stand so on a terminal.
+fn formatted(
+    is_terminal: bool,
+    format: FormatArgs<'_>,
+    text: Command<'static>,
+    asked: Asked,
+) -> Result<Command<'static>, Failure>
+    ensures { seen seen_command result ≡ formatted is_terminal (seen_format format.entry) (seen_command text.entry) asked }
+{
+    let name = format.name.unwrap_or(default_format(is_terminal));
+    if name == "text" {
+        return Ok(text);
+    }
+    if name == "gcc" {
+        return Ok(Command::Named(asked, format.all));
+    }
+    Err(Failure::NoFormat)
+}
+
+/// The name of the format where none is given.
+fn default_format(is_terminal: bool) -> &'static str
+    ensures { result.now ≡ default_format is_terminal }
+{
+    if is_terminal { "gcc" } else { "text" }
 }
 
 /// Writes the notes beside the answer of a run, or reports the failure with which it ended, and gives the exit status.

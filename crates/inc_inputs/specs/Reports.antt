@@ -73,6 +73,12 @@ out_of_memory = record { message = codes "out of memory"; status = 5 }
 abbrev pub two_forms : Report
 two_forms = record { message = codes "--blank and --patch exclude each other"; status = 2 }
 
+abbrev pub format_of_files : Report
+format_of_files = record { message = codes "--format excludes --blank and --patch"; status = 2 }
+
+abbrev pub no_format : Report
+no_format = record { message = codes "--format is text or gcc"; status = 2 }
+
 abbrev pub two_languages : Report
 two_languages = record { message = codes "--extended and --gnu exclude each other"; status = 2 }
 
@@ -130,6 +136,8 @@ report_of (failure.SamePath path) = same_path path.items
 report_of (failure.MalformedList at) = malformed_list at.items
 report_of failure.InputTwice = input_twice
 report_of failure.TwoForms = two_forms
+report_of failure.FormatOfFiles = format_of_files
+report_of failure.NoFormat = no_format
 report_of failure.TwoLanguages = two_languages
 report_of failure.TwoLists = two_lists
 report_of failure.NoEnds = no_ends

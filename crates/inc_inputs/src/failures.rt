@@ -61,6 +61,10 @@ pub enum Failure {
     OneFile,
     /// A cut is asked for as files and as a diff.
     TwoForms,
+    /// A cut is asked for as files or as a diff, and in a format.
+    FormatOfFiles,
+    /// A format has a name that none has.
+    NoFormat,
     /// The files are said to be in two languages.
     TwoLanguages,
     /// The files are listed, and are to be found below folders.
@@ -324,6 +328,8 @@ impl Failure {
             Failure::NoFile => (b"'-' is no file to write", b""),
             Failure::OneFile => (b"--deps and --status name one file", b""),
             Failure::TwoForms => (b"--blank and --patch exclude each other", b""),
+            Failure::FormatOfFiles => (b"--format excludes --blank and --patch", b""),
+            Failure::NoFormat => (b"--format is text or gcc", b""),
             Failure::TwoLanguages => (b"--extended and --gnu exclude each other", b""),
             Failure::TwoLists => (b"--files and --root exclude each other", b""),
             Failure::NoEnds => (b"name SOURCE and HEADER, or give --from and --to", b""),
@@ -348,6 +354,8 @@ impl Failure {
             | Failure::NoFile
             | Failure::OneFile
             | Failure::TwoForms
+            | Failure::FormatOfFiles
+            | Failure::NoFormat
             | Failure::TwoLanguages
             | Failure::TwoLists
             | Failure::NoEnds

@@ -16,6 +16,7 @@ pub mod OneText
 pub mod PpLemmas
 pub mod PpSections
 pub mod RuleLemmas
+pub mod NameOrder
 pub mod NameLemmas
 pub mod QuestionLemmas
 pub mod KeptLines
@@ -33,3 +34,8 @@ pub mod CutDirectives
 pub mod ChangedListings
 pub mod BlankLemmas
 pub mod PatchLemmas
+pub mod EdgeEnds
+pub mod UnresolvedTexts
+pub mod KeptDirectives
+pub mod NamedLemmas
+pub mod ChainBlocks

@@ -92,7 +92,7 @@ fn tell_graph<W: ByteSink>(
 }
 
 /// The notes beside the answer that these sources reach a header: there are some where none does.
-fn notes_of(
+pub(crate) fn notes_of(
     alloc: Global,
     project: &Project<'_>,
     graph: &Graph,

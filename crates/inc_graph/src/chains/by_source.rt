@@ -1,5 +1,5 @@
 //! The shortest chains of a graph by the sources that they begin at, made one at a time.
-ghost use Rattle.std.specs.Prelude.{◌≡◌, ◌<◌, ◌-◌, ℕ, List, [], ◌∷◌, length, take, if◌then◌else◌, IfOk, IfSome, None};
+ghost use Rattle.std.specs.Prelude.{◌≡◌, ◌<◌, ◌-◌, ℕ, List, [], ◌∷◌, length, slice_get, take, if◌then◌else◌, IfOk, IfSome, None};
 ghost use Rattle.inc_graph.specs.Chains.{target};
 ghost use Rattle.inc_graph.specs.Distances.{AreWays, IsNextReaching, distance, reaching_from, walk_by};
 ghost use Rattle.inc_graph.specs.Reaching.{AreReaching};
@@ -110,6 +110,16 @@ impl<'g> SourceChains<'g> {
         ensures { result ≡ length self.now.at.chain }
     {
         u32::from(steps_from(&self.distances, self.source))
+    }
+
+    /// The first edge of the chain of the source at hand, if it has one.
+    pub fn first(&self) -> Option<EdgeId>
+        ensures { result ≡ slice_get self.now.at.chain 0 }
+    {
+        if steps_from(&self.distances, self.source) == 0 {
+            return None;
+        }
+        Some(self.steps[self.source.index()])
     }
 
     /// Makes the chain of the source at hand.

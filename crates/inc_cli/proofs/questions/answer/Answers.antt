@@ -6,6 +6,8 @@ use Rattle.inc_report.specs.CheckText.{IsCheckBy}
 use Rattle.inc_report.specs.CutText.{IsCutBy}
 use Rattle.inc_report.specs.GraphText.{IsGraphBy}
 use Rattle.inc_report.specs.Headline.{CheckHeadline, CutHeadline}
+use Rattle.inc_report.specs.NamedHeadline.{NamedHeadline}
+use Rattle.inc_report.specs.NamedText.{IsNamedBy}
 use Rattle.inc_report.specs.WhoText.{IsWhoBy}
 use Rattle.inc_report.specs.WhyText.{IsWhyBy}
 use Rattle.inc_cli.proofs.ListedPrints.{of_bytes_all}
@@ -139,6 +141,32 @@ returns-in-Patch-clause-promised g c =
     let l = c.args.limits.now in
     rw c.in-Patch.is (prints gives old new layout q (λ p. HoldsOfGiven (reading gives) old new layout (λ _ listing. PatchHeadline q l p listing)) _ _ _
     (λ p h. holds gives old new layout (λ _ listing. PatchHeadline q l p listing) h) c.run_patch-ended.ensures.headline c.run_patch-ended.ensures.unread)
+
+pub returns-in-Named-clause-printed : goal.returns-in-Named-clause-printed
+returns-in-Named-clause-printed g c =
+    let gives = g.I.Inputs.gives in
+    let old = c.args.files in
+    let new = c.run_named-ended.result.1 in
+    let layout = c.args.project.now in
+    let q = c.args.question.now in
+    let l = c.args.limits.now in
+    let asked = c.in-Named.asked in
+    let all = c.in-Named.all in
+    rw c.in-Named.is (prints gives old new layout q (λ p. HoldsOfGiven (reading gives) old new layout (IsNamedBy asked all q l p)) _ _ _
+    (λ p h. holds gives old new layout (IsNamedBy asked all q l p) h) c.run_named-ended.ensures.written c.run_named-ended.ensures.unread)
+
+pub returns-in-Named-clause-promised : goal.returns-in-Named-clause-promised
+returns-in-Named-clause-promised g c =
+    let gives = g.I.Inputs.gives in
+    let old = c.args.files in
+    let new = c.run_named-ended.result.1 in
+    let layout = c.args.project.now in
+    let q = c.args.question.now in
+    let l = c.args.limits.now in
+    let asked = c.in-Named.asked in
+    let all = c.in-Named.all in
+    rw c.in-Named.is (prints gives old new layout q (λ p. HoldsOfGiven (reading gives) old new layout (λ _ listing. NamedHeadline asked all q l p listing)) _ _ _
+    (λ p h. holds gives old new layout (λ _ listing. NamedHeadline asked all q l p listing) h) c.run_named-ended.ensures.headline c.run_named-ended.ensures.unread)
 
 pub returns-in-Ok-clause-printed : goal.returns-in-Ok-clause-printed
 returns-in-Ok-clause-printed g c =

@@ -12,9 +12,10 @@ returns-in-Ok-form_of-clause-answered g c not =
     let gives = g.I.Inputs.gives in
     let o : Opens g.row.I.Denot g.row.I-Stream.Denot = record { opens = g.I.Inputs.opens; left = g.I.Stream.ByteSource.left } in
     let language = c.args.setup.now.language in
+    let terminal = c.args.setup.now.is_terminal in
     let out = output_of (g.O.ByteSink.written c.args.out) (g.O.ByteSink.written c.ask-in-Ok-form_of.result.1) (g.O.ByteSink.has_failed c.ask-in-Ok-form_of.result.1) in
     let answer = seen_end c.ask-in-Ok-form_of.result.0 in
-    subst (λ r. IsAnswerTo gives g.I.Inputs.puts o language (seen_request r) c.args.inputs out answer) (sym c.in-Cut.is)
+    subst (λ r. IsAnswerTo gives g.I.Inputs.puts o language terminal (seen_request r) c.args.inputs out answer) (sym c.in-Cut.is)
     (subst
     (λ (command : Result Command Report). Follows (λ k. IsAsked gives o language k (seen_question c.in-Cut.question) (seen_limits c.in-Cut.limits)) command c.args.inputs out answer)
     c.in-Ok-form_of.ensures (c.ask-in-Ok-form_of.ensures.printed not))
@@ -24,9 +25,10 @@ returns-in-Ok-form_of-clause-promised g c not =
     let gives = g.I.Inputs.gives in
     let o : Opens g.row.I.Denot g.row.I-Stream.Denot = record { opens = g.I.Inputs.opens; left = g.I.Stream.ByteSource.left } in
     let language = c.args.setup.now.language in
+    let terminal = c.args.setup.now.is_terminal in
     let out = output_of (g.O.ByteSink.written c.args.out) (g.O.ByteSink.written c.ask-in-Ok-form_of.result.1) (g.O.ByteSink.has_failed c.ask-in-Ok-form_of.result.1) in
     let answer = seen_end c.ask-in-Ok-form_of.result.0 in
-    subst (λ r. IsPromiseOf gives o language (seen_request r) c.args.inputs out answer) (sym c.in-Cut.is)
+    subst (λ r. IsPromiseOf gives o language terminal (seen_request r) c.args.inputs out answer) (sym c.in-Cut.is)
     (subst
     (λ (command : Result Command Report). Follows (λ k. IsKept gives o language k (seen_question c.in-Cut.question) (seen_limits c.in-Cut.limits)) command c.args.inputs out answer)
     c.in-Ok-form_of.ensures (c.ask-in-Ok-form_of.ensures.promised not))
@@ -35,12 +37,12 @@ pub returns-in-Check-clause-answered : goal.returns-in-Check-clause-answered
 returns-in-Check-clause-answered g c not =
     let o : Opens g.row.I.Denot g.row.I-Stream.Denot = record { opens = g.I.Inputs.opens; left = g.I.Stream.ByteSource.left } in
     let out = output_of (g.O.ByteSink.written c.args.out) (g.O.ByteSink.written c.ask-in-Check.result.1) (g.O.ByteSink.has_failed c.ask-in-Check.result.1) in
-    subst (λ r. IsAnswerTo g.I.Inputs.gives g.I.Inputs.puts o c.args.setup.now.language (seen_request r) c.args.inputs out (seen_end c.ask-in-Check.result.0)) (sym c.in-Check.is)
+    subst (λ r. IsAnswerTo g.I.Inputs.gives g.I.Inputs.puts o c.args.setup.now.language c.args.setup.now.is_terminal (seen_request r) c.args.inputs out (seen_end c.ask-in-Check.result.0)) (sym c.in-Check.is)
     (c.ask-in-Check.ensures.printed not)
 
 pub returns-in-Check-clause-promised : goal.returns-in-Check-clause-promised
 returns-in-Check-clause-promised g c not =
     let o : Opens g.row.I.Denot g.row.I-Stream.Denot = record { opens = g.I.Inputs.opens; left = g.I.Stream.ByteSource.left } in
     let out = output_of (g.O.ByteSink.written c.args.out) (g.O.ByteSink.written c.ask-in-Check.result.1) (g.O.ByteSink.has_failed c.ask-in-Check.result.1) in
-    subst (λ r. IsPromiseOf g.I.Inputs.gives o c.args.setup.now.language (seen_request r) c.args.inputs out (seen_end c.ask-in-Check.result.0)) (sym c.in-Check.is)
+    subst (λ r. IsPromiseOf g.I.Inputs.gives o c.args.setup.now.language c.args.setup.now.is_terminal (seen_request r) c.args.inputs out (seen_end c.ask-in-Check.result.0)) (sym c.in-Check.is)
     (c.ask-in-Check.ensures.promised not)

@@ -1,0 +1,149 @@
+-- The files of the directives of documents are kept.
+use Rattle.std.proofs.Common.{◌≡◌, ℕ, suc, ◌+◌, ◌<◌, Bool, true, false, List, [], ◌∷◌, ◌++◌, Option, Some, None, cond, length, map, is_some, refl, subst, arith}
+use Rattle.std.specs.Prelude.{filter_map, flat_map, slice_get, IsTrue}
+use Rattle.std.specs.List.{All, cons_option}
+use Rattle.std.proofs.lemmas.List.Elements.{All-append, All-cons, All-head, All-map, All-nil, All-tail}
+use Rattle.inc_lookup.specs.declared.projects.DirectiveId.{DirectiveId}
+use Rattle.inc_lookup.specs.Projects.{Layout}
+use Rattle.inc_graph.specs.Cuts.{Counted, directives_of}
+use Rattle.inc_graph.specs.IncludeGraph.{Edge, Graph}
+use Rattle.inc_graph.specs.MissingLists.{Missing}
+use Rattle.inc_graph.specs.Reaching.{Reaching}
+use Rattle.inc_graph.specs.declared.graphs.Blocker.{Blocker}
+use Rattle.inc_graph.specs.declared.graphs.BlockerKind.{BlockerKind}
+use Rattle.inc_report.specs.CutDocument.{chain_blocks, chains_from, cut_document, fixed_document, proof_blocks, shown_chains}
+use Rattle.inc_report.specs.Documents.{AreGraphKept, AreKept, Block, IsKept, Led, Place, Words, edge_places, listed, places}
+use Rattle.inc_report.specs.KeptFiles.{Kept, kept_at}
+use Rattle.inc_report.specs.WhoDocument.{in_blocks, led, reaching_blocks, reaching_by, who_document}
+use Rattle.inc_report.specs.WhyDocument.{blocker_blocks, blocker_if, blocker_ids, is_kind, is_same, last_of, missing_blocks, missing_id, other_blocks, other_lasts, reached_by, reached_document, shortest_blocks, unreached_document, unresolved_blocks, way_blocks, why_document, whole_way}
+use Rattle.inc_graph.specs.declared.graphs.BlockerKind.TheVariants.{Computed, Foreign, Several}
+use Rattle.inc_report.proofs.CutDirectives.{directives_all}
+
+module _ (kept : Kept) where
+  abbrev IsHeld : DirectiveId → Type 0
+  IsHeld d = IsTrue (is_some (kept_at kept d.file))
+
+  nothing : AreKept kept []
+  nothing = All-nil (IsKept kept)
+
+  words_first : (text : List ℕ) (bs : List Block) → AreKept kept bs → AreKept kept (Words text ∷ bs)
+  words_first text bs rest = All-cons (IsKept kept) (Words text) bs tt rest
+
+  both : (front back : List Block) → AreKept kept front → AreKept kept back → AreKept kept (front ++ back)
+  both front back first second = All-append (IsKept kept) front back first second
+
+  places_kept : (ds : List DirectiveId) → All IsHeld ds → AreKept kept (places ds)
+  places_kept ds held = All-map (IsKept kept) Place ds held
+
+  listed_kept : (one many : List ℕ) (ds : List DirectiveId) → All IsHeld ds → AreKept kept (listed one many ds)
+  listed_kept one many [] held = nothing
+  listed_kept one many (d ∷ ds) held = words_first _ (places (d ∷ ds)) (places_kept (d ∷ ds) held)
+
+  module _ (g : Graph) (held : AreGraphKept g kept) where
+    directives_held : (is : List ℕ) → All IsHeld (directives_of g is)
+    directives_held is = directives_all g (λ (e : Edge). IsTrue (is_some (kept_at kept e.from))) IsHeld (λ e there. there) held.edges is
+
+    edges_kept : (is : List ℕ) → AreKept kept (edge_places g is)
+    edges_kept is = places_kept (directives_of g is) (directives_held is)
+
+    ---- why
+
+    shortest_by : (layout : Layout) (chain : List ℕ) (first : ℕ) (last : Option ℕ) → AreKept kept (reached_by layout g chain first last)
+    shortest_by layout chain first None = nothing
+    shortest_by layout chain first (Some last) = words_first _ (edge_places g chain) (edges_kept chain)
+
+    shortest_kept : (layout : Layout) (chain : List ℕ) → AreKept kept (shortest_blocks layout g chain)
+    shortest_kept layout [] = words_first _ [] nothing
+    shortest_kept layout (i ∷ is) = shortest_by layout (i ∷ is) i (last_of (i ∷ is))
+
+    way_if : (b : Bool) (chain : List ℕ) → AreKept kept (cond b [] (whole_way g chain))
+    way_if true chain = nothing
+    way_if false chain = words_first _ (edge_places g chain) (edges_kept chain)
+
+    ways_kept : (last : Option ℕ) (chains : List (List ℕ)) → AreKept kept (flat_map (way_blocks last g) chains)
+    ways_kept last [] = nothing
+    ways_kept last (c ∷ cs) = both (way_blocks last g c) (flat_map (way_blocks last g) cs) (way_if (is_same (last_of c) last) c) (ways_kept last cs)
+
+    others_kept : (all : Bool) (last : Option ℕ) (chains : List (List ℕ)) → AreKept kept (other_blocks all last g chains)
+    others_kept true last chains = ways_kept last chains
+    others_kept false last chains = listed_kept _ _ (directives_of g (other_lasts last chains)) (directives_held (other_lasts last chains))
+
+    missing_kept : AreKept kept (missing_blocks g.missing)
+    missing_kept = listed_kept _ _ (map missing_id g.missing) (All-map IsHeld missing_id g.missing held.missing)
+
+    blocker_next : (o : Option DirectiveId) (ds : List DirectiveId) → ((d : DirectiveId) → o ≡ Some d → IsHeld d) → All IsHeld ds → All IsHeld (cons_option o ds)
+    blocker_next None ds own rest = rest
+    blocker_next (Some d) ds own rest = All-cons IsHeld d ds (own d refl) rest
+
+    blocker_held : (b : Bool) (file line : ℕ) (d : DirectiveId) → IsTrue (is_some (kept_at kept file)) → cond b (Some (record { file = file; line = line })) None ≡ Some d → IsHeld d
+    blocker_held true file line d there is = subst (λ (o : Option DirectiveId). held_if o) is there
+      where
+        held_if : Option DirectiveId → Type 0
+        held_if None = Unit {0}
+        held_if (Some x) = IsHeld x
+    blocker_held false file line d there is = cc
+
+    blockers_held : (kind : BlockerKind) (bs : List Blocker) → All (λ (b : Blocker). IsTrue (is_some (kept_at kept b.file))) bs → All IsHeld (blocker_ids kind bs)
+    blockers_held kind [] all = All-nil IsHeld
+    blockers_held kind (b ∷ bs) all =
+        blocker_next (blocker_if kind b) (blocker_ids kind bs)
+        (λ d is. blocker_held (is_kind kind b.kind) b.file b.line d (All-head (λ (x : Blocker). IsTrue (is_some (kept_at kept x.file))) b bs all) is)
+        (blockers_held kind bs (All-tail (λ (x : Blocker). IsTrue (is_some (kept_at kept x.file))) b bs all))
+
+    blocker_kept : AreKept kept (blocker_blocks g.blockers)
+    blocker_kept =
+        both _ _ (both _ _ (listed_kept _ _ (blocker_ids Computed g.blockers) (blockers_held Computed g.blockers held.blockers))
+        (listed_kept _ _ (blocker_ids Foreign g.blockers) (blockers_held Foreign g.blockers held.blockers)))
+        (listed_kept _ _ (blocker_ids Several g.blockers) (blockers_held Several g.blockers held.blockers))
+
+    unresolved_kept : (all : Bool) → AreKept kept (unresolved_blocks all g)
+    unresolved_kept true = both (missing_blocks g.missing) (blocker_blocks g.blockers) missing_kept blocker_kept
+    unresolved_kept false = blocker_kept
+
+    pub why_kept : (all : Bool) (layout : Layout) (shortest : Option (List ℕ)) (chains : List (List ℕ)) → AreKept kept (why_document all layout g shortest chains)
+    why_kept all layout None chains = words_first _ (unresolved_blocks all g) (unresolved_kept all)
+    why_kept all layout (Some chain) chains =
+        both _ _ (both (shortest_blocks layout g chain) (other_blocks all (last_of chain) g chains) (shortest_kept layout chain) (others_kept all (last_of chain) chains))
+        (unresolved_kept all)
+
+    ---- who
+
+    led_kept : (words : List ℕ) (ds : List DirectiveId) → All IsHeld ds → AreKept kept (led words ds)
+    led_kept words ds all = All-map (IsKept kept) (Led words) ds all
+
+    reaching_kept : (all : Bool) (layout : Layout) (s : ℕ) (first : Option ℕ) (chain : List ℕ) → AreKept kept (reaching_by all layout g s first chain)
+    reaching_kept all layout s None chain = words_first _ [] nothing
+    reaching_kept false layout s (Some i) chain = led_kept _ (directives_of g (i ∷ [])) (directives_held (i ∷ []))
+    reaching_kept true layout s (Some i) chain = shortest_kept layout chain
+
+    sources_kept : (all : Bool) (layout : Layout) (rs : List Reaching) → AreKept kept (flat_map (reaching_blocks all layout g) rs)
+    sources_kept all layout [] = nothing
+    sources_kept all layout (r ∷ rs) =
+        both (reaching_blocks all layout g r) (flat_map (reaching_blocks all layout g) rs) (reaching_kept all layout r.source (slice_get r.chain 0) r.chain) (sources_kept all layout rs)
+
+    pub who_kept : (all : Bool) (layout : Layout) (rs : List Reaching) (chains : List (List ℕ)) → AreKept kept (who_document all layout g rs chains)
+    who_kept all layout rs chains =
+        words_first _ _ (both _ _ (both (flat_map (reaching_blocks all layout g) rs) (in_blocks g chains) (sources_kept all layout rs)
+        (listed_kept _ _ (directives_of g (other_lasts None chains)) (directives_held (other_lasts None chains))))
+        (unresolved_kept all))
+
+    ---- cut
+
+    chains_kept : (number total : ℕ) (cs : List Counted) → AreKept kept (chains_from g number total cs)
+    chains_kept number total [] = nothing
+    chains_kept number total (c ∷ cs) =
+        both (chain_blocks g number total c) (chains_from g (number + 1) total cs) (words_first _ (edge_places g c.chain) (edges_kept c.chain)) (chains_kept (number + 1) total cs)
+
+    shown_kept : (all : Bool) (cs : List Counted) → AreKept kept (shown_chains all g cs)
+    shown_kept true cs = chains_kept 1 (length cs) cs
+    shown_kept false cs = nothing
+
+    pub cut_kept : (all costed : Bool) (layout : Layout) (set : List ℕ) (cs : List Counted) → AreKept kept (cut_document all costed layout g set cs)
+    cut_kept all costed layout [] cs = words_first _ [] nothing
+    cut_kept all costed layout (i ∷ is) cs =
+        words_first _ (edge_places g (i ∷ is) ++ proof_blocks all costed g cs)
+        (both (edge_places g (i ∷ is)) (proof_blocks all costed g cs) (edges_kept (i ∷ is)) (words_first _ (shown_chains all g cs) (shown_kept all cs)))
+
+    pub fixed_kept : (layout : Layout) (chain : List ℕ) → AreKept kept (fixed_document layout g chain)
+    fixed_kept layout [] = words_first _ [] nothing
+    fixed_kept layout (i ∷ is) = words_first _ (edge_places g (i ∷ is)) (edges_kept (i ∷ is))

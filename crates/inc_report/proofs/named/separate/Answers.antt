@@ -1,0 +1,29 @@
+use Rattle.std.proofs.Common.{◌∙◌, Bool, ap, subst}
+use Rattle.inc_graph.specs.MarkedEdges.{amounts_by}
+use Rattle.inc_report.specs.CutDocument.{has_costs}
+use Rattle.inc_report.specs.CutText.{marks_refusal}
+use Rattle.inc_report.specs.NamedText.{IsNamedCutOf}
+use Rattle.inc_report.specs.Terms.{Limits}
+use Rattle.inc_report.proofs.CutLemmas.{unhindered}
+use Rattle.inc_report.proofs.HeadlineLemmas.{unhindered_all}
+use Rattle.inc_report.proofs.WritingLemmas.{prints_all}
+use Rattle.inc_report.proofs.named.separate.Goals as goal
+
+pub returns-in-Ok-clause-sent : goal.returns-in-Ok-clause-sent
+returns-in-Ok-clause-sent g c =
+    prints_all _ _ _ _ c.send_smallest.result
+    (λ p is. λ listing laid fits.
+    unhindered (IsNamedCutOf c.args.all (has_costs c.args.limits.now.costs) c.args.language listing) c.args.project.now c.args.graph.now c.args.limits.now _ p c.in-Ok.ensures.open c.in-Ok.ensures.named c.in-Ok.ensures.fixed
+    (subst (λ (costed : Bool). IsNamedCutOf c.args.all costed c.args.language listing c.args.project.now c.args.graph.now c.in-Ok.fixed p) (c.has_costs.ensures ∙ ap (λ (l : Limits). has_costs l.costs) c.limits.view_is) (is listing laid fits)))
+    c.send_smallest.ensures.sent
+
+pub returns-in-Err-clause-sent : goal.returns-in-Err-clause-sent
+returns-in-Err-clause-sent g c =
+    let layout = c.args.project.now in
+    let graph = c.args.graph.now in
+    let l = c.args.limits.now in
+    prints_all _ _ _ _ c.refuse_hindrance.result
+    (λ p is. λ listing laid fits.
+    unhindered_all layout graph.blockers (marks_refusal layout graph l.fixed l.costs) (λ q. ⊥) (IsNamedCutOf c.args.all (has_costs l.costs) c.args.language listing layout graph (amounts_by layout graph l.kept l.fixed l.costs)) p
+    (λ none. absurd none) is)
+    c.refuse_hindrance.ensures.sent
