@@ -1,7 +1,8 @@
 -- A preprocessing reads bare trees as it reads the trees, and of a project it sees the settings, the paths and the
 -- trees.
-use Rattle.std.proofs.Common.{◌≡◌, ℕ, Bool, true, false, List, Option, Some, None, Result, Ok, Err, option_map, refl, sym, ap, ◌∙◌}
+use Rattle.std.proofs.Common.{◌≡◌, ℕ, nat_lt, Bool, true, false, List, [], ◌∷◌, ◌++◌, Option, Some, None, Result, Ok, Err, option_map, refl, sym, ap, ◌∙◌}
 use Rattle.inc_token.specs.declared.kinds.IncludeName.{IncludeName}
+use Rattle.inc_token.specs.TokenLines.{Tok}
 use Rattle.inc_directive.specs.Groups.{FileLine, Group, Empty, Run, Control, Section, Branches, Branch, Otherwise, Close}
 use Rattle.inc_directive.specs.LineKinds.{LineKind, Text, Include, Other, Target, Quoted, line_of_tokens, search_after}
 use Rattle.inc_directive.specs.declared.kinds.DirectiveKind.{DirectiveKind}
@@ -14,11 +15,12 @@ use Rattle.inc_macro.specs.Results.{◌>>=◌}
 use Rattle.inc_cond.specs.Conditions.{condition}
 use Rattle.inc_pp.specs.declared.causes.Cause.{Cause}
 use Rattle.inc_pp.specs.declared.causes.Cause.TheVariants as cause
-use Rattle.inc_pp.specs.Directives.{changed, control_of}
+use Rattle.inc_pp.specs.Directives.{changed, control_of, directive_read}
 use Rattle.inc_pp.specs.Files.{FileFault}
 use Rattle.inc_pp.specs.Includes.{Header, entry_in, header_of, include_target, included, led_to}
 use Rattle.inc_pp.specs.Preprocessing.{group_read, section_read, tree_read}
-use Rattle.inc_pp.specs.Runs.{run_put, run_read, with_meter}
+use Rattle.inc_pp.specs.OpenCalls.{open_in}
+use Rattle.inc_pp.specs.Runs.{released, run_put, run_read, text_read, tokens_read, waiting_read, with_meter, with_waiting}
 use Rattle.inc_pp.specs.Sections.{condition_of, if_true, is_taken, is_true, operands}
 use Rattle.inc_pp.specs.Settings.{Settings}
 use Rattle.inc_pp.specs.Tasks.{File, State, Entry, Here, Halt, Deeper, caused, halting, place_of}
@@ -54,12 +56,27 @@ module _ (settings : Settings) (one two : Listing) (without others : List Direct
   abbrev g : File
   g = record { task = record { listing = two; settings = settings; without = others }; index = at.file; next = at.next; deeper = deeper }
 
+  tokens_same : (ts : List Tok) (s : State) (h : Here) → tokens_read f ts s h ≡ tokens_read g ts s h
+  tokens_same ts s h =
+      ap (λ (r : Result State Halt). r >>= λ t. Ok (t, with_waiting [] 0 h)) (halting_same f g refl (line_of_tokens ts) s (run_put f h s ts))
+
+  wait_same : (b : Bool) (x : Result (State × Here) Halt) (ts : List Tok) (s : State) (h : Here)
+      → ◌≡◌ {A = Result (State × Here) Halt} (elim b [ true ↦ x | false ↦ tokens_read f ts s h ]) (elim b [ true ↦ x | false ↦ tokens_read g ts s h ])
+  wait_same true x ts s h = refl
+  wait_same false x ts s h = tokens_same ts s h
+
+  text_same : (ts : List Tok) (s : State) (h : Here) → text_read f ts s h ≡ text_read g ts s h
+  text_same [] s h = refl
+  text_same (t ∷ ts) s h =
+      wait_same (nat_lt 0 (open_in s.table h.deep (t ∷ ts))) (Ok (s, with_waiting (h.waiting ++ t ∷ ts) (open_in s.table h.deep (t ∷ ts)) h)) (h.waiting ++ t ∷ ts) s h
+
+  waiting_same : (ts : List Tok) (s : State) (h : Here) → waiting_read f ts s h ≡ waiting_read g ts s h
+  waiting_same [] s h = refl
+  waiting_same (t ∷ ts) s h = tokens_same (t ∷ ts) s h
+
   run_same : (ls : List FileLine) (s : State) (h : Here) → run_read f ls s h ≡ run_read g (bare_run ls) s h
   run_same ls s h =
-      ap (λ (r : Result State Halt). r >>= λ t. Ok (t, h))
-      (halting_same f g refl (line_of_tokens (run_tokens ls)) s (run_put f h s (run_tokens ls)))
-      ∙ ap (λ ts. halting g (line_of_tokens ts) s (run_put g h s ts) >>= λ t. Ok (t, h))
-      (sym (run_bare ls))
+      text_same (run_tokens ls) s h ∙ ap (λ ts. text_read g ts s h) (sym (run_bare ls))
 
   -- the answer of a condition that looks for headers among these paths
   abbrev value_in : FileLine → State → Here → Layout → Result (Bool × State) Cause
@@ -128,6 +145,11 @@ module _ (settings : Settings) (one two : Listing) (without others : List Direct
       halting_same f g refl (line_of_tokens l.tokens) s (changed k f l s h)
       ∙ ap (halting g (line_of_tokens l.tokens) s) (changed_same k l s h)
 
+  directive_same : (l : FileLine) (s : State) (h : Here) → directive_read f l s h ≡ directive_read g (unplaced l) s h
+  directive_same l s h =
+      ap (λ (r : Result (State × Here) Halt). r >>= λ p. control_of l.kind f l p.0 p.1) (waiting_same h.waiting s h)
+      ∙ then_same (released g s h) (λ p. control_of l.kind f l p.0 p.1) (λ p. control_of l.kind g (unplaced l) p.0 p.1) (λ p. control_same l.kind l p.0 p.1)
+
   mutual
     group_same : (t : Group) (s : State) (h : Here) → group_read f t s h ≡ group_read g (bare t) s h
     group_same Empty s h = refl
@@ -136,8 +158,8 @@ module _ (settings : Settings) (one two : Listing) (without others : List Direct
         ∙ then_same (run_read g (bare_run ls) s h) (λ x. group_read f t x.0 x.1) (λ x. group_read g (bare t) x.0 x.1)
         (λ x. group_same t x.0 x.1)
     group_same (Control l t) s h =
-        ap (λ (r : Result (State × Here) Halt). r >>= λ x. group_read f t x.0 x.1) (control_same l.kind l s h)
-        ∙ then_same (control_of l.kind g (unplaced l) s h) (λ x. group_read f t x.0 x.1)
+        ap (λ (r : Result (State × Here) Halt). r >>= λ x. group_read f t x.0 x.1) (directive_same l s h)
+        ∙ then_same (directive_read g (unplaced l) s h) (λ x. group_read f t x.0 x.1)
         (λ x. group_read g (bare t) x.0 x.1) (λ x. group_same t x.0 x.1)
     group_same (Section bs t) s h =
         ap (λ (r : Result (State × Here) Halt). r >>= λ x. group_read f t x.0 x.1) (section_same bs s h)
@@ -159,5 +181,8 @@ module _ (settings : Settings) (one two : Listing) (without others : List Direct
 
   pub tree_same : (r : Result Group FileFault) (s : State) (h : Here)
       → tree_read f r s h ≡ tree_read g (bare_result r) s h
-  tree_same (Ok t) s h = ap (λ (r : Result (State × Here) Halt). r >>= λ x. Ok x.0) (group_same t s h)
+  tree_same (Ok t) s h =
+      ap (λ (r : Result (State × Here) Halt). r >>= λ x. released f x.0 x.1 >>= λ q. Ok q.0) (group_same t s h)
+      ∙ then_same (group_read g (bare t) s h) (λ x. released f x.0 x.1 >>= λ q. Ok q.0) (λ x. released g x.0 x.1 >>= λ q. Ok q.0)
+      (λ x. ap (λ (r : Result (State × Here) Halt). r >>= λ q. Ok q.0) (waiting_same x.1.waiting x.0 x.1))
   tree_same (Err fault) s h = halting_same f g refl fault.1 s (Err fault.0)

@@ -1,5 +1,5 @@
 -- What a preprocessing has read stays the beginning of what it reads.
-use Rattle.std.proofs.Common.{◌≡◌, sym, ap, ◌∙◌, ℕ, zero, suc, ◌-◌, Bool, true, false, cond, List, [], ◌∷◌, ◌++◌, Option, Some, None, Result, Ok, Err, length}
+use Rattle.std.proofs.Common.{◌≡◌, sym, ap, ◌∙◌, ℕ, zero, suc, ◌-◌, Bool, true, false, cond, List, [], ◌∷◌, ◌++◌, Option, Some, None, Result, Ok, Err, length, nat_lt}
 use Rattle.std.specs.Prelude.{IfSome}
 use Rattle.std.proofs.lemmas.List.{append_assoc, append-nil}
 use Rattle.inc_token.specs.declared.kinds.IncludeName.{IncludeName}
@@ -19,7 +19,8 @@ use Rattle.inc_pp.specs.Directives.{after_pragma, line_operands, names_once, cha
 use Rattle.inc_pp.specs.Files.{FileFault, tree_of}
 use Rattle.inc_pp.specs.Includes.{Header, after_found, found_from, header_of, include_target, included, is_import, led_to}
 use Rattle.inc_pp.specs.Preprocessing.{group_read, section_read, tree_read, file_read, reading, most_depth, outcome_of, with_read}
-use Rattle.inc_pp.specs.Runs.{expanded, run_put, run_read}
+use Rattle.inc_pp.specs.OpenCalls.{open_in}
+use Rattle.inc_pp.specs.Runs.{expanded, run_put, run_read, text_read, tokens_read, waiting_read, with_waiting}
 use Rattle.inc_pp.specs.Sections.{condition_of, operands}
 use Rattle.inc_pp.specs.Tasks.{Task, State, Entry, Here, Halt, Deeper, File, layout_in, start}
 use Rattle.inc_pp.specs.Walks.{Held, all_read, deeper_at, ending_read, file_at, lines_read, parts_in, open_read}
@@ -57,9 +58,26 @@ module _ (before : List ℕ) where
   put_on : (f : File) (h : Here) (s : State) (ts : List Tok) → IsOn s → Keeps IsOn (run_put f h s ts)
   put_on f h s ts n = keeps_then (expanded_on f h s ts n) (λ r k. keeps_after _ (λ l. keeps_ok k))
 
+  tokens_on : (f : File) (ts : List Tok) (s : State) (h : Here) → IsOn s → Holds IsOnHere IsOn (tokens_read f ts s h)
+  tokens_on f ts s h n = holds_then (holds_halting f (line_of_tokens ts) s (run_put f h s ts) n (put_on f h s ts n)) (λ t k. holds_ok k)
+
+  wait_on : (b : Bool) (x : State × Here) (r : Result (State × Here) Halt) → IsOnHere x → Holds IsOnHere IsOn r
+      → Holds IsOnHere IsOn (elim b as (λ _. Result (State × Here) Halt) [ true ↦ Ok x | false ↦ r ])
+  wait_on true x r n h = holds_ok n
+  wait_on false x r n h = h
+
+  text_on : (f : File) (ts : List Tok) (s : State) (h : Here) → IsOn s → Holds IsOnHere IsOn (text_read f ts s h)
+  text_on f [] s h n = holds_ok n
+  text_on f (t ∷ ts) s h n =
+      wait_on (nat_lt 0 (open_in s.table h.deep (t ∷ ts))) (s, with_waiting (h.waiting ++ t ∷ ts) (open_in s.table h.deep (t ∷ ts)) h)
+      (tokens_read f (h.waiting ++ t ∷ ts) s h) n (tokens_on f (h.waiting ++ t ∷ ts) s h n)
+
   run_on : (f : File) (ls : List FileLine) (s : State) (h : Here) → IsOn s → Holds IsOnHere IsOn (run_read f ls s h)
-  run_on f ls s h n =
-      holds_then (holds_halting f (line_of_tokens (run_tokens ls)) s (run_put f h s (run_tokens ls)) n (put_on f h s (run_tokens ls) n)) (λ t k. holds_ok k)
+  run_on f ls s h n = text_on f (run_tokens ls) s h n
+
+  waiting_on : (f : File) (ts : List Tok) (s : State) (h : Here) → IsOn s → Holds IsOnHere IsOn (waiting_read f ts s h)
+  waiting_on f [] s h n = holds_ok n
+  waiting_on f (t ∷ ts) s h n = tokens_on f (t ∷ ts) s h n
 
   condition_on : (kind : LineKind) (f : File) (l : FileLine) (s : State) (h : Here) → IsOn s → Keeps (IsOnAfter Bool) (condition_of kind f l s h)
   condition_on (Other Ifdef) f l s h n = keeps_after _ (λ x. keeps_ok n)
@@ -139,7 +157,8 @@ module _ (before : List ℕ) where
     group_on : (f : File) (g : Group) (s : State) (h : Here) → IsDeeperOn f.deeper → IsOn s → Holds IsOnHere IsOn (group_read f g s h)
     group_on f Empty s h d n = holds_ok n
     group_on f (Run ls g) s h d n = holds_then (run_on f ls s h n) (λ r k. group_on f g r.0 r.1 d k)
-    group_on f (Control l g) s h d n = holds_then (control_on l.kind f l s h d n) (λ r k. group_on f g r.0 r.1 d k)
+    group_on f (Control l g) s h d n =
+        holds_then (holds_then (waiting_on f h.waiting s h n) (λ p k. control_on l.kind f l p.0 p.1 d k)) (λ r k. group_on f g r.0 r.1 d k)
     group_on f (Section bs g) s h d n = holds_then (section_on f bs s h d n) (λ r k. group_on f g r.0 r.1 d k)
 
     section_on : (f : File) (bs : Branches) (s : State) (h : Here) → IsDeeperOn f.deeper → IsOn s → Holds IsOnHere IsOn (section_read f bs s h)
@@ -150,13 +169,13 @@ module _ (before : List ℕ) where
     section_on f (Close e) s h d n = holds_ok n
 
   tree_on : (f : File) (r : Result Group FileFault) (s : State) (h : Here) → IsDeeperOn f.deeper → IsOn s → Holds IsOn IsOn (tree_read f r s h)
-  tree_on f (Ok g) s h d n = holds_then (group_on f g s h d n) (λ r k. holds_ok k)
+  tree_on f (Ok g) s h d n = holds_then (group_on f g s h d n) (λ r k. holds_then (waiting_on f r.1.waiting r.0 r.1 k) (λ q i. holds_ok i))
   tree_on f (Err fault) s h d n = holds_halting f fault.1 s (Err fault.0) n keeps_err
 
   ---- what is left of a file
 
   ending_on : (f : File) (e : Ending) (s : State) (h : Here) → IsDeeperOn f.deeper → IsOn s → Holds IsOnHere IsOn (ending_read f e s h)
-  ending_on f FileEnd s h d n = holds_ok n
+  ending_on f FileEnd s h d n = waiting_on f h.waiting s h n
   ending_on f (Faulty fault) s h d n = holds_ok n
   ending_on f (AtElif l g e) s h d n = ending_on f e s h d n
   ending_on f (AtElse l g e) s h d n = ending_on f e s h d n

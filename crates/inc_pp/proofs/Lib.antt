@@ -7,6 +7,8 @@ pub mod Prints
 pub mod StopSteps
 pub mod OperatorSteps
 pub mod RunSteps
+pub mod TextRuns
+pub mod CallScans
 pub mod TakenSteps
 pub mod Walking
 pub mod LineSteps

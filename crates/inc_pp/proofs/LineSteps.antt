@@ -1,5 +1,5 @@
 -- One step of a walk over the parts of a file, by the place of the part.
-use Rattle.std.proofs.Common.{◌≡◌, ◌≢◌, ℕ, zero, suc, ◌+◌, ◌-◌, ◌<◌, ◌≤◌, ◌==◌, ◌⊎◌, inl, inr, Bool, true, false, List, [], ◌∷◌, ◌++◌, Some, IfSome, Ok, refl, ap, sym, ◌∙◌, subst, length, take, drop, slice_get, arith}
+use Rattle.std.proofs.Common.{◌≡◌, ◌≢◌, ℕ, zero, suc, ◌+◌, ◌-◌, ◌<◌, ◌≤◌, ◌==◌, ◌⊎◌, inl, inr, Bool, true, false, List, [], ◌∷◌, ◌++◌, Some, IfSome, refl, ap, sym, ◌∙◌, subst, length, take, drop, slice_get, arith}
 use Rattle.std.specs.List.{All}
 use Rattle.std.proofs.lemmas.Grind.{flat_map-append}
 use Rattle.std.proofs.lemmas.List.{take-append-drop, drop-drop, drop_more, drop_all, length-drop}
@@ -14,8 +14,8 @@ use Rattle.inc_directive.specs.Parts.{FilePart, TextPart, DirectivePart, IsPart,
 use Rattle.inc_directive.specs.TreeLaws.{is_opening}
 use Rattle.inc_macro.specs.Results.{◌>>=◌}
 use Rattle.inc_pp.specs.Tasks.{File, State, Here}
-use Rattle.inc_pp.specs.Directives.{control_read}
-use Rattle.inc_pp.specs.Runs.{run_read}
+use Rattle.inc_pp.specs.Directives.{directive_read}
+use Rattle.inc_pp.specs.Runs.{run_read, released}
 use Rattle.inc_pp.specs.Walks.{ending_read, lines_read}
 use Rattle.inc_pp.proofs.ChoiceReads.{choice_read, next_read}
 use Rattle.inc_pp.proofs.Walking.{NoTextFirst, lines-if, lines-control, lines-endif, lines-elif, lines-else, lines-ended, lines-run, closing-read, next-line, next-elif, text_is_some}
@@ -154,7 +154,7 @@ module _ (f : File) (ps : List FilePart) where
       ∙ run_of f (lines_of_parts run) (lines_from j ps) (lines-some run are_parts (long_take (j - i) (drop i ps) (omega (arith, onward)) some)) (lines-text run are_parts text) (not_text_first ps j other) s h
 
   pub step-control : (i n : ℕ) (l : FileLine) → slice_get ps i ≡ Some (DirectivePart l) → role l.kind ≡ ControlLine → n ≡ i + 1 → (s : State) (h : Here)
-      → lines_read f (lines_from i ps) s h ≡ (control_read f l s h >>= λ r. lines_read f (lines_from n ps) r.0 r.1)
+      → lines_read f (lines_from i ps) s h ≡ (directive_read f l s h >>= λ r. lines_read f (lines_from n ps) r.0 r.1)
   step-control i n l at is e s h = ap (λ xs. lines_read f xs s h) (from-line ps i n l at e) ∙ lines-control f l (lines_from n ps) is s h
 
   pub step-endif : (i n : ℕ) (l : FileLine) → slice_get ps i ≡ Some (DirectivePart l) → role l.kind ≡ EndifLine → n ≡ i + 1 → (s : State) (h : Here)
@@ -197,5 +197,5 @@ module _ (f : File) (ps : List FilePart) where
       (ap group_at (sym (from-line ps b m l at e')) ∙ ap (λ x. group_at (lines_from x ps)) is_b ∙ leads.at_branch ∙ ap (λ x. (Empty, (group_at (lines_from x ps)).1)) (sym (next_is n i e))) s h
 
   -- the end of the file
-  pub step-done : (i : ℕ) → length ps ≤ i → (s : State) (h : Here) → lines_read f (lines_from i ps) s h ≡ Ok (s, h)
+  pub step-done : (i : ℕ) → length ps ≤ i → (s : State) (h : Here) → lines_read f (lines_from i ps) s h ≡ released f s h
   step-done i past s h = ap (λ xs. lines_read f xs s h) (ap lines_of_parts (drop_all i ps past))

@@ -1,5 +1,5 @@
 -- No preprocessing stops because memory ran out: the definitions know no such thing.
-use Rattle.std.proofs.Common.{ℕ, zero, suc, ◌+◌, Bool, true, false, List, [], ◌∷◌, Option, Some, None, Result, Ok, Err, drop, length, nat_le}
+use Rattle.std.proofs.Common.{ℕ, zero, suc, ◌+◌, Bool, true, false, List, [], ◌∷◌, ◌++◌, Option, Some, None, Result, Ok, Err, drop, length, nat_le, nat_lt}
 use Rattle.std.specs.Prelude.{◌≢◌, IfOk, IfErr, IfSome, ok_or, option_map, if◌then◌else◌, bytes_eq, codes}
 use Rattle.inc_text.specs.PhaseText.{Cell, is_too_long, phase_text}
 use Rattle.inc_token.specs.declared.kinds.IncludeName.{IncludeName}
@@ -36,13 +36,14 @@ use Rattle.inc_pp.specs.declared.causes.Cause.{Cause}
 use Rattle.inc_pp.specs.declared.causes.Cause.TheVariants as cause
 use Rattle.inc_pp.specs.declared.settings.Missing.{Missing}
 use Rattle.inc_pp.specs.declared.settings.Missing.TheVariants as missing
-use Rattle.inc_pp.specs.Directives.{after_pragma, changed, control_of, counted, line_operands, renumbered, with_table}
+use Rattle.inc_pp.specs.Directives.{after_pragma, changed, control_of, counted, directive_read, line_operands, renumbered, with_table}
 use Rattle.inc_pp.specs.Files.{FileFault, lines_or_fault, of_balance, text_tree, tree_of, tree_of_lines}
 use Rattle.inc_pp.specs.Includes.{found_from, header_in, header_of, include_target, included, is_done, led_to, most_reads, not_found, wanted}
 use Rattle.inc_pp.specs.MemoryCauses.{IsNotMemory}
 use Rattle.inc_pp.specs.Pragmas.{Laid, after_literal, after_name, after_open, before, is_operator, laid, plain, pragma_line, pragma_text, pragma_tokens, tokens_or_bad, where_fits, is_stacking, names_once, restacked, stacked, stacked_name}
 use Rattle.inc_pp.specs.Preprocessing.{group_read, section_read, tree_read, file_read, reading, most_depth, outcome_of, preprocessing, with_read, named_settings, source_read}
-use Rattle.inc_pp.specs.Runs.{expanded, marks_in, run_put, run_read}
+use Rattle.inc_pp.specs.OpenCalls.{open_in}
+use Rattle.inc_pp.specs.Runs.{expanded, marks_in, released, run_put, run_read, text_read, tokens_read, waiting_read, with_waiting}
 use Rattle.inc_pp.specs.Sections.{condition_of, first_name, if_defined, if_not_defined, if_true, is_taken, operands}
 use Rattle.inc_pp.specs.Settings.{Settings}
 use Rattle.inc_pp.specs.Tasks.{Task, State, Entry, Here, Halt, Deeper, File, begun, caused, halting, layout_in, place_of, search_of, source_at, start}
@@ -169,10 +170,26 @@ put_has f h s ts =
     then_has (expanded f h s ts) _ (expanded_has f h s ts) (λ r.
     then_has (laid s.table.language (marks_in f h) None r.0) _ (laid_has s.table.language (marks_in f h) None r.0) (λ l. tt))
 
+tokens_has : (f : File) (ts : List Tok) (s : State) (h : Here) → Halts (tokens_read f ts s h)
+tokens_has f ts s h =
+    then_halts (halting f (line_of_tokens ts) s (run_put f h s ts)) _ (halting_has f (line_of_tokens ts) s (run_put f h s ts) (put_has f h s ts)) (λ t. tt)
+
+wait_has : (b : Bool) (x : State × Here) (r : Result (State × Here) Halt) → Halts r → Halts (elim b as (λ _. Result (State × Here) Halt) [ true ↦ Ok x | false ↦ r ])
+wait_has true x r h = tt
+wait_has false x r h = h
+
+run_text_has : (f : File) (ts : List Tok) (s : State) (h : Here) → Halts (text_read f ts s h)
+run_text_has f [] s h = tt
+run_text_has f (t ∷ ts) s h =
+    wait_has (nat_lt 0 (open_in s.table h.deep (t ∷ ts))) (s, with_waiting (h.waiting ++ t ∷ ts) (open_in s.table h.deep (t ∷ ts)) h)
+    (tokens_read f (h.waiting ++ t ∷ ts) s h) (tokens_has f (h.waiting ++ t ∷ ts) s h)
+
 run_has : (f : File) (ls : List FileLine) (s : State) (h : Here) → Halts (run_read f ls s h)
-run_has f ls s h =
-    then_halts (halting f (line_of_tokens (run_tokens ls)) s (run_put f h s (run_tokens ls))) _
-    (halting_has f (line_of_tokens (run_tokens ls)) s (run_put f h s (run_tokens ls)) (put_has f h s (run_tokens ls))) (λ t. tt)
+run_has f ls s h = run_text_has f (run_tokens ls) s h
+
+waiting_has : (f : File) (ts : List Tok) (s : State) (h : Here) → Halts (waiting_read f ts s h)
+waiting_has f [] s h = tt
+waiting_has f (t ∷ ts) s h = tokens_has f (t ∷ ts) s h
 
 if_name : (b : Bool) (text : List ℕ) → Has (if b then Ok text else Err cause.BadName)
 if_name true text = tt
@@ -302,7 +319,9 @@ mutual
   group_has : (f : File) (g : Group) (s : State) (h : Here) → DeeperHas f.deeper → Halts (group_read f g s h)
   group_has f Empty s h d = tt
   group_has f (Run ls g) s h d = then_halts (run_read f ls s h) _ (run_has f ls s h) (λ r. group_has f g r.0 r.1 d)
-  group_has f (Control l g) s h d = then_halts (control_of l.kind f l s h) _ (control_has l.kind f l s h d) (λ r. group_has f g r.0 r.1 d)
+  group_has f (Control l g) s h d =
+      then_halts (directive_read f l s h) _
+      (then_halts (released f s h) _ (waiting_has f h.waiting s h) (λ p. control_has l.kind f l p.0 p.1 d)) (λ r. group_has f g r.0 r.1 d)
   group_has f (Section bs g) s h d = then_halts (section_read f bs s h) _ (section_has f bs s h d) (λ r. group_has f g r.0 r.1 d)
 
   section_has : (f : File) (bs : Branches) (s : State) (h : Here) → DeeperHas f.deeper → Halts (section_read f bs s h)
@@ -313,7 +332,8 @@ mutual
   section_has f (Close e) s h d = tt
 
 tree_has : (f : File) (r : Result Group FileFault) (s : State) (h : Here) → DeeperHas f.deeper → FileHas r → Halts (tree_read f r s h)
-tree_has f (Ok g) s h d k = then_halts (group_read f g s h) _ (group_has f g s h d) (λ r. tt)
+tree_has f (Ok g) s h d k =
+    then_halts (group_read f g s h) _ (group_has f g s h d) (λ r. then_halts (released f r.0 r.1) _ (waiting_has f r.1.waiting r.0 r.1) (λ q. tt))
 tree_has f (Err fault) s h d k = k
 
 file_has : (t : Task) (deeper : Deeper) (to : Entry) (s : State) → DeeperHas deeper → Halts (file_read t deeper to s)

@@ -13,6 +13,7 @@ use Rattle.inc_pp.specs.declared.frames.Frame.{Frame}
 use Rattle.inc_pp.specs.Files.{FileFault, tree_of}
 use Rattle.inc_pp.specs.Includes.{included}
 use Rattle.inc_pp.specs.Preprocessing.{group_read, tree_read, with_read, file_read, most_depth, reading}
+use Rattle.inc_pp.specs.Runs.{released}
 use Rattle.inc_pp.specs.Stops.{halt_at, IsIn}
 use Rattle.inc_pp.specs.Tasks.{Task, File, State, Entry, Here, Halt, layout_in, start}
 use Rattle.inc_pp.specs.WalkJobs.{first_frame}
@@ -37,10 +38,10 @@ pub all-on : (t : Task) (held : Held) (o o' : Frame) (os : List Frame) (s s' : S
 all-on t held o o' os s s' e = all-same t held os _ _ (ap (λ r. r >>= λ x. Ok x.0) e)
 
 -- the file ends
-pub all-done : (t : Task) (held : Held) (o : Frame) (os : List Frame) (s : State)
-    → lines_read (file_at t o.at (length os)) (lines_from o.part (parts_in held o.at.file)) s o.here ≡ Ok (s, o.here)
-    → all_read t held (o ∷ os) (Ok s) ≡ all_read t held os (Ok s)
-all-done t held o os s e = all-same t held os _ _ (ap (λ r. r >>= λ x. Ok x.0) e)
+pub all-done : (t : Task) (held : Held) (o : Frame) (os : List Frame) (s s' : State) (h : Here)
+    → lines_read (file_at t o.at (length os)) (lines_from o.part (parts_in held o.at.file)) s o.here ≡ Ok (s', h)
+    → all_read t held (o ∷ os) (Ok s) ≡ all_read t held os (Ok s')
+all-done t held o os s s' h e = all-same t held os _ _ (ap (λ r. r >>= λ x. Ok x.0) e)
 
 -- it stops
 pub all-halt : (t : Task) (held : Held) (o : Frame) (os : List Frame) (s : State) (halt : Halt)
@@ -119,7 +120,7 @@ pub tree_from : (f : File) (ls : List FileLine) (g : Group) (s : State) (h : Her
     → tree_read f (Ok g) s h ≡ (lines_read f ls s h >>= λ r. Ok r.0)
 tree_from f ls g s h is =
     sym (ap (λ (x : Group × Ending). (group_read f x.0 s h >>= λ r. ending_read f x.1 r.0 r.1) >>= λ r. Ok r.0) (whole_is (group_at ls) g is)
-    ∙ then_then (group_read f g s h) (λ r. Ok (r.0, r.1)) (λ r. Ok r.0))
+    ∙ then_then (group_read f g s h) (λ r. released f r.0 r.1) (λ r. Ok r.0))
 
 -- a file that is held is entered
 pub all-entered : (t : Task) (held : Held) (os : List Frame) (to : Entry) (depth : ℕ) (ls : List FilePart) (g : Group) (s : State) (new : Frame)

@@ -3,19 +3,16 @@ use Rattle.std.proofs.Common.{◌≡◌, refl, ap, sym, ◌∙◌, ℕ, Bool, tr
 use Rattle.std.specs.Prelude.{if◌then◌else◌}
 use Rattle.inc_text.specs.declared.languages.Language.{Language}
 use Rattle.inc_token.specs.TokenLines.{Tok}
-use Rattle.inc_directive.specs.Groups.{FileLine}
-use Rattle.inc_directive.specs.LineKinds.{line_of_tokens}
-use Rattle.inc_directive.specs.Runs.{run_tokens}
 use Rattle.inc_macro.specs.Results.{◌>>=◌}
 use Rattle.inc_expand.specs.Expansion.{Item, Place, Meter}
 use Rattle.inc_pp.specs.declared.causes.Cause.{Cause}
 use Rattle.inc_pp.specs.Pragmas.{Laid, laid}
 use Rattle.inc_pp.specs.LineMarkers.{marks_of}
-use Rattle.inc_pp.specs.Runs.{marks_in, put_laid, run_put, run_read, with_once, with_meter}
+use Rattle.inc_pp.specs.Runs.{marks_in, put_laid, run_put, with_once, with_meter}
 use Rattle.inc_pp.specs.Settings.{Settings}
 use Rattle.inc_pp.specs.Steps.{expansion_at, laid_at, place_under}
 use Rattle.inc_pp.specs.Stops.{IsUnder}
-use Rattle.inc_pp.specs.Tasks.{File, State, Here, Halt, OutToken, halting, place_of}
+use Rattle.inc_pp.specs.Tasks.{File, State, Here, OutToken, place_of}
 use Rattle.inc_pp.proofs.OperatorSteps.{paid, with_left}
 use Rattle.inc_pp.proofs.StopSteps.{in_state}
 
@@ -43,10 +40,6 @@ put-is f settings under h s ts =
     put_then s.table.language (marks_in f h) f.index s (expansion_at (place_of f h) s.table s.meter ts)
     ∙ ap (λ (u : Settings). put_by f.index s (laid_at (marks_under u h) (place_under u h) s.table s.meter ts)) under
 
--- a run, by its tokens
-abbrev by_tokens : File → List Tok → State → Here → Result (State × Here) Halt
-by_tokens f ts s h = halting f (line_of_tokens ts) s (run_put f h s ts) >>= λ t. Ok (t, h)
-
 -- the state with what was put out, and the file perhaps among those that are read once
 abbrev noted : ℕ → State → (meter : Meter) → List OutToken → Bool → State
 noted file s meter now once =
@@ -58,16 +51,25 @@ once_is : (file : ℕ) (s : State) (out : List OutToken) (meter : Meter) (once :
 once_is file s out meter true = refl
 once_is file s out meter false = refl
 
-module _ (f : File) (settings : Settings) (under : IsUnder settings f) (ls : List FileLine) (ts : List Tok) (are : ts ≡ run_tokens ls) (s : State) (h : Here) where
-  -- what a run in a file puts out
-  pub run-done : (file : ℕ) → f.index ≡ file → (place : Place) → place ≡ place_under settings h → (marks : Option Place)
+module _ (f : File) (settings : Settings) (under : IsUnder settings f) (ts : List Tok) (s : State) (h : Here) where
+  -- what tokens of a file put out, by how it is known where they are
+  put_at : (place : Place) → place ≡ place_under settings h → (marks : Option Place) → marks ≡ marks_of settings (place_under settings h)
+      → run_put f h s ts ≡ put_by f.index s (laid_at marks place s.table s.meter ts)
+  put_at place at marks marked =
+      put-is f settings under h s ts ∙ ap (λ (m : Option Place). put_by f.index s (laid_at m (place_under settings h) s.table s.meter ts)) (sym marked)
+      ∙ ap (λ (p : Place). put_by f.index s (laid_at marks p s.table s.meter ts)) (sym at)
+
+  -- they are put out
+  pub put-done : (file : ℕ) → f.index ≡ file → (place : Place) → place ≡ place_under settings h → (marks : Option Place)
       → marks ≡ marks_of settings (place_under settings h) → (t : State) (out now : List OutToken) (meter : Meter) (once : Bool)
       → laid_at marks place s.table s.meter ts ≡ Ok (record { tokens = out; once = once }, meter) → now ≡ s.output ++ out → t ≡ noted file s meter now once
-      → run_read f ls s h ≡ Ok (t, h)
-  run-done file index place at marks marked t out now meter once is put e =
-      ap (λ us. by_tokens f us s h) (sym are)
-      ∙ ap (λ r. halting f (line_of_tokens ts) s r >>= λ t. Ok (t, h))
-      (put-is f settings under h s ts ∙ ap (λ (m : Option Place). put_by f.index s (laid_at m (place_under settings h) s.table s.meter ts)) (sym marked)
-      ∙ ap (λ (p : Place). put_by f.index s (laid_at marks p s.table s.meter ts)) (sym at) ∙ ap (put_by f.index s) is
+      → run_put f h s ts ≡ Ok t
+  put-done file index place at marks marked t out now meter once is put e =
+      put_at place at marks marked ∙ ap (put_by f.index s) is
       ∙ ap (λ k. Ok (put_laid k (record { tokens = out; once = once }) (with_meter meter s))) index
-      ∙ ap (λ u. Ok u) (once_is file s out meter once ∙ ap (λ us. noted file s meter us once) (sym put) ∙ sym e))
+      ∙ ap (λ u. Ok u) (once_is file s out meter once ∙ ap (λ us. noted file s meter us once) (sym put) ∙ sym e)
+
+  -- they have a fault
+  pub put-stop : (place : Place) → place ≡ place_under settings h → (marks : Option Place) → marks ≡ marks_of settings (place_under settings h)
+      → (c : Cause) → laid_at marks place s.table s.meter ts ≡ Err c → run_put f h s ts ≡ Err c
+  put-stop place at marks marked c is = put_at place at marks marked ∙ ap (put_by f.index s) is

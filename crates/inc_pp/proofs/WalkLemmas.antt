@@ -22,8 +22,9 @@ use Rattle.inc_pp.specs.Files.{FileFault, text_tree}
 use Rattle.inc_macro.specs.Results.{◌>>=◌}
 use Rattle.inc_pp.specs.Preprocessing.{outcome_of, with_read, file_read, most_depth}
 use Rattle.inc_pp.specs.Readings.{IsOfReadsAfter}
-use Rattle.inc_pp.specs.Stops.{AreOf, IfBadFile, IfStop, IfUnread, halt_at, IsIn}
-use Rattle.inc_pp.specs.Tasks.{File, State, Entry}
+use Rattle.inc_pp.specs.Runs.{released}
+use Rattle.inc_pp.specs.Stops.{AreOf, IfBadFile, IfStop, IfUnread, halt_at, IsIn, IsUnder}
+use Rattle.inc_pp.specs.Tasks.{File, State, Entry, Here}
 use Rattle.inc_pp.specs.Walks.{lines_read, Held, held_at, fault_at, known_at, parts_in, deeper_at, file_at, all_read}
 use Rattle.inc_pp.specs.HeldFiles.{IsSkipped}
 use Rattle.inc_pp.specs.WalkJobs.{first_frame, frames_left, walk_left}
@@ -36,6 +37,7 @@ use Rattle.inc_pp.proofs.LineSteps.{step-done}
 use Rattle.inc_pp.proofs.OpenFiles.{all-on, all-done, all-halt, all-enter, all-entered, all-bad, all-held, is_in}
 use Rattle.inc_pp.proofs.Readings.{held-same, held-other, held-none, fault-same, known_lines, known_fault, reading-on, reading-again, reading-more, reading-end, reading-fails}
 use Rattle.inc_pp.proofs.Stepping.{included-none}
+use Rattle.inc_pp.proofs.StopSteps.{if-stop}
 
 -- the lines of a held file
 lines_are : (held : Held) (i : ℕ) (ls : List FilePart) → held_at held i ≡ Some ls → parts_in held i ≡ ls
@@ -91,10 +93,9 @@ no_fault o held i at is = sym at ∙ is
 pub held_is : {A : Type 0} (view : A → List FilePart) (o : Option A) (x : A) (held : Held) (i : ℕ) → option_map view o ≡ held_at held i → o ≡ Some x → held_at held i ≡ Some (view x)
 held_is view o x held i at is = sym at ∙ ap (λ y. option_map view y) is
 
-pub none_past : {A : Type 0} (view : A → List FilePart) (o : Option A) (held : Held) (i n : ℕ) → option_map view o ≡ held_at held i → o ≡ None → length (parts_in held i) ≤ n
-none_past view o held i n at is =
-    let empty : parts_in held i ≡ [] = ap (λ y. option_map_or (λ xs. xs) y []) (sym at ∙ ap (λ y. option_map view y) is) in
-    rw empty (omega arith)
+-- no part is left
+pub within_held : (m n : ℕ) (ls : List FilePart) → m ≡ length ls → m ≤ n → length ls ≤ n
+within_held m n ls is low = omega (arith, is, low)
 
 pub some_past : (held : Held) (i m n : ℕ) (ls : List FilePart) → held_at held i ≡ Some ls → m ≡ length ls → m ≤ n → length (parts_in held i) ≤ n
 some_past held i m n ls at is low = let long : length (parts_in held i) ≡ length ls = ap length (lines_are held i ls at) in omega (arith, long, is, low)
@@ -265,19 +266,34 @@ module _ {S : Type 0} (gives : S → ℕ → Result (List ℕ) ReadFault → S �
   ---- the innermost file is read on
 
   module _ (frame : Frame) (s : State) (w : IsWalk gives old new j held (frame ∷ frames) s) where
-    -- nothing is left of it
-    pub walk-passed : ((f : File) → lines_read f (lines_from frame.part (parts_in held frame.at.file)) s frame.here ≡ Ok (s, frame.here)) → IsWalk gives old new j held frames s
-    walk-passed nothing = record {
-      reading = reading-on gives old j new held s.reads _ w.reading (λ t. all_read t held frames (Ok s))
-          (λ listing laid trees. all-done (task_of j listing) held frame frames s (nothing (file_at (task_of j listing) frame.at (length frames))));
+    -- nothing is left of it after this state
+    pub walk-passed : (t : State) (h : Here) → t.reads ≡ s.reads
+        → ((f : File) → IsUnder j.settings f → f.index ≡ frame.at.file → lines_read f (lines_from frame.part (parts_in held frame.at.file)) s frame.here ≡ Ok (t, h))
+        → IsWalk gives old new j held frames t
+    walk-passed t h reads nothing = record {
+      reading = subst (λ rs. IsReading gives old new j held rs (λ x. all_read x held frames (Ok t))) (sym reads)
+          (reading-on gives old j new held s.reads _ w.reading (λ x. all_read x held frames (Ok t))
+          (λ listing laid trees. all-done (task_of j listing) held frame frames s t h (nothing (file_at (task_of j listing) frame.at (length frames)) refl refl)));
       are_open = All-tail (λ (o : Frame). (ks : List FilePart) × (held_at held o.at.file ≡ Some ks)) frame frames w.are_open;
       deep = omega (arith, w.deep);
       within = All-tail (λ (o : Frame). o.at.file < length j.layout.paths) frame frames w.within;
     }
 
     -- it is over
-    pub walk-done : length (parts_in held frame.at.file) ≤ frame.part → IsWalk gives old new j held frames s
-    walk-done past = walk-passed (λ f. step-done f (parts_in held frame.at.file) frame.part past s frame.here)
+    pub walk-done : (t : State) (h : Here) → t.reads ≡ s.reads → length (parts_in held frame.at.file) ≤ frame.part
+        → ((f : File) → IsUnder j.settings f → f.index ≡ frame.at.file → released f s frame.here ≡ Ok (t, h))
+        → IsWalk gives old new j held frames t
+    walk-done t h reads past free =
+        walk-passed t h reads (λ f under index. step-done f (parts_in held frame.at.file) frame.part past s frame.here ∙ free f under index)
+
+    -- it is held
+    pub walk-held : held_at held frame.at.file ≢ None
+    walk-held = λ none.
+        let there = All-head (λ (o : Frame). (ks : List FilePart) × (held_at held o.at.file ≡ Some ks)) frame frames w.are_open in
+        some_other there.0 (sym there.1 ∙ none)
+      where
+        some_other : (ks : List FilePart) → Some ks ≢ None
+        some_other ks = λ e. cc
 
     pub walk-within : frame.at.file < length j.layout.paths
     walk-within = All-head (λ (o : Frame). o.at.file < length j.layout.paths) frame frames w.within
@@ -376,6 +392,18 @@ module _ {S : Type 0} (gives : S → ℕ → Result (List ℕ) ReadFault → S �
       walk-break t (end.Unread fault) reads stops = absurd stops
       walk-break t end.NoMemory reads stops = tt
 
+      -- tokens that wait have a fault where the file ends
+      pub done-break : (t : State) (why : Break) → t.reads ≡ s.reads → length ls ≤ frame.part
+          → IfStop why (λ line cause. (t ≡ s) × ((f : File) → IsUnder j.settings f → f.index ≡ frame.at.file → released f s frame.here ≡ Err (halt_at f s line cause)))
+          → EndsBy gives old new j held t frame.at.file why
+      done-break t why reads past stops =
+          walk-break t why reads
+          (if-stop why _ _ (λ line cause stop f in_file. (
+            s,
+            record { output = ap (λ x. x.output) (sym stop.0); reads = ap (λ x. x.reads) (sym stop.0) },
+            step-done f ls frame.part past s frame.here ∙ stop.1 f in_file.under in_file.at,
+          )) stops)
+
 -- why a file is not entered
 pub enter-break : {S : Type 0} (gives : S → ℕ → Result (List ℕ) ReadFault → S → Type 0) (old new : S) (j : Job) (held : Held) (s : State) (file : ℕ) (why : Break)
     → {P : ℕ → Cause → Type 0} → {Q : ReadFault → Type 0}
@@ -391,8 +419,8 @@ pub enter-passed : {S : Type 0} (gives : S → ℕ → Result (List ℕ) ReadFau
     → IsEntering gives old new j held frames from s → t ≡ with_read from.at.file s → (ls : List FilePart) → held_at held from.at.file ≡ Some ls → IsSkipped t.table ls → IsWalk gives old new j held frames t
 enter-passed gives old new j held frames from s t e is ls at nothing =
     subst (λ (x : State). IsWalk gives old new j held frames x) (sym is)
-    (walk-passed gives old new j held frames first (with_read from.at.file s) (enter-again gives old new j held frames from s e ls first at refl)
-    (λ f. ap (λ xs. lines_read f (lines_of_parts xs) (with_read from.at.file s) first.here) (lines_are held from.at.file ls at) ∙ nothing f (with_read from.at.file s) first.here (ap (λ (x : State). x.table) (sym is))))
+    (walk-passed gives old new j held frames first (with_read from.at.file s) (enter-again gives old new j held frames from s e ls first at refl) (with_read from.at.file s) first.here refl
+    (λ f under index. ap (λ xs. lines_read f (lines_of_parts xs) (with_read from.at.file s) first.here) (lines_are held from.at.file ls at) ∙ nothing f (with_read from.at.file s) first.here (ap (λ (x : State). x.table) (sym is))))
   where
     first : Frame
     first = first_frame j.layout from

@@ -9,7 +9,7 @@ use Rattle.inc_directive.specs.Jumps.{closing, Closes}
 use Rattle.inc_macro.specs.Results.{◌>>=◌}
 use Rattle.inc_pp.specs.Tasks.{File, State, Here, Halt}
 use Rattle.inc_pp.specs.Preprocessing.{group_read, section_read}
-use Rattle.inc_pp.specs.Directives.{control_read}
+use Rattle.inc_pp.specs.Directives.{directive_read}
 use Rattle.inc_pp.specs.Runs.{run_read}
 use Rattle.inc_pp.specs.Sections.{is_taken}
 use Rattle.inc_pp.specs.Walks.{ending_read, rest_read, lines_read}
@@ -120,9 +120,9 @@ lines-if f l ls is closes s h =
 ---- other lines
 
 pub lines-control : (f : File) (l : FileLine) (ls : List FileLine) → role l.kind ≡ ControlLine → (s : State) (h : Here)
-    → lines_read f (l ∷ ls) s h ≡ (control_read f l s h >>= λ r. lines_read f ls r.0 r.1)
+    → lines_read f (l ∷ ls) s h ≡ (directive_read f l s h >>= λ r. lines_read f ls r.0 r.1)
 lines-control f l ls is s h =
-    rw is (then_then (control_read f l s h) (λ r. group_read f (group_at ls).0 r.0 r.1) (λ r. ending_read f (group_at ls).1 r.0 r.1))
+    rw is (then_then (directive_read f l s h) (λ r. group_read f (group_at ls).0 r.0 r.1) (λ r. ending_read f (group_at ls).1 r.0 r.1))
 
 pub lines-endif : (f : File) (l : FileLine) (ls : List FileLine) → role l.kind ≡ EndifLine → (s : State) (h : Here)
     → lines_read f (l ∷ ls) s h ≡ lines_read f ls s h

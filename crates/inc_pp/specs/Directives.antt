@@ -21,7 +21,7 @@ use Rattle.inc_pp.specs.declared.causes.Cause.TheVariants as cause
 use Rattle.inc_pp.specs.Includes.{is_plain_string, include_target, included, with_once}
 pub use Rattle.inc_pp.specs.Pragmas.{names_once, put_pragma, is_stacking, restacked}
 use Rattle.inc_text.specs.Languages.{is_gnu}
-use Rattle.inc_pp.specs.Runs.{expanded, marks_in, put_out}
+use Rattle.inc_pp.specs.Runs.{expanded, marks_in, put_out, released}
 use Rattle.inc_pp.specs.Sections.{operands}
 use Rattle.inc_pp.specs.Tasks.{File, State, Here, Halt, caused, halting}
 
@@ -124,6 +124,9 @@ control_of (Include by target) f l s h =
 control_of Text f l s h = Ok (s, h)
 control_of (Other directive) f l s h = halting f (line_of_tokens l.tokens) s (changed directive f l s h)
 
--- a directive of no section
 abbrev pub control_read : File → FileLine → State → Here → Result (State × Here) Halt
 control_read f l s h = control_of l.kind f l s h
+
+-- a directive of no section: no token waits on for it
+abbrev pub directive_read : File → FileLine → State → Here → Result (State × Here) Halt
+directive_read f l s h = released f s h >>= λ p. control_read f l p.0 p.1

@@ -7,6 +7,7 @@ use Rattle.inc_directive.specs.LineKinds.{Other}
 use Rattle.inc_directive.specs.declared.kinds.DirectiveKind.TheVariants.{Ifndef}
 use Rattle.inc_directive.specs.Parts.{FilePart, DirectivePart, lines_from, lines_of_parts}
 use Rattle.inc_macro.specs.Macros.{Table, is_defined}
+use Rattle.inc_pp.specs.Runs.{released}
 use Rattle.inc_pp.specs.Sections.{is_taken}
 use Rattle.inc_pp.specs.Tasks.{File, State, Here}
 use Rattle.inc_pp.specs.Walks.{lines_read}
@@ -26,12 +27,12 @@ pub record IsGuard (parts : List FilePart) (i : ℕ) : Type 0 where
   pub is : slice_get parts i ≡ Some (DirectivePart line)
   -- it is an #ifndef
   pub tests : line.kind ≡ Other Ifndef
-  -- where its branch is not taken, the whole file changes nothing
-  pub passed : (f : File) (s : State) (h : Here) → is_taken f line s h ≡ Ok (false, s) → lines_read f (lines_of_parts parts) s h ≡ Ok (s, h)
+  -- where its branch is not taken, the whole file changes nothing, but that no token waits on at its end
+  pub passed : (f : File) (s : State) (h : Here) → is_taken f line s h ≡ Ok (false, s) → lines_read f (lines_of_parts parts) s h ≡ released f s h
 
--- with these macros the lines change nothing
+-- with these macros the lines change nothing, but that no token waits on at their end
 abbrev pub IsSkipped : Table → List FilePart → Type 0
-IsSkipped table parts = (f : File) (s : State) (h : Here) → s.table ≡ table → lines_read f (lines_of_parts parts) s h ≡ Ok (s, h)
+IsSkipped table parts = (f : File) (s : State) (h : Here) → s.table ≡ table → lines_read f (lines_of_parts parts) s h ≡ released f s h
 
 -- while a macro has this name, the lines change nothing
 abbrev pub HasGuard : List FilePart → List ℕ → Type 0

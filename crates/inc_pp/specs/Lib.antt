@@ -5,6 +5,8 @@ pub mod Tasks
 pub mod Entries
 pub mod LineMarkers
 pub mod Pragmas
+pub mod OpenCalls
+pub mod Waiting
 pub mod Runs
 pub mod Sections
 pub mod Includes

@@ -9,9 +9,9 @@ pub use Rattle.inc_macro.specs.Macros.{with_words}
 use Rattle.inc_macro.specs.Macros.{no_macros}
 use Rattle.inc_macro.specs.Results.{◌>>=◌}
 use Rattle.inc_pp.specs.declared.causes.Stop.{Stop}
-use Rattle.inc_pp.specs.Directives.{control_read}
+use Rattle.inc_pp.specs.Directives.{directive_read}
 use Rattle.inc_pp.specs.Files.{FileFault, tree_of}
-use Rattle.inc_pp.specs.Runs.{run_read}
+use Rattle.inc_pp.specs.Runs.{run_read, released}
 use Rattle.inc_pp.specs.Sections.{is_taken}
 use Rattle.inc_pp.specs.Settings.{Settings, sourced_settings}
 use Rattle.inc_pp.specs.Tasks.{OutToken, Task, State, Entry, Here, Halt, Deeper, File, layout_in, start, source_at, begun, halting}
@@ -24,7 +24,7 @@ abbrev mutual
   pub group_read : File → Group → State → Here → Result (State × Here) Halt
   group_read f Empty s h = Ok (s, h)
   group_read f (Run ls g) s h = run_read f ls s h >>= λ r. group_read f g r.0 r.1
-  group_read f (Control l g) s h = control_read f l s h >>= λ r. group_read f g r.0 r.1
+  group_read f (Control l g) s h = directive_read f l s h >>= λ r. group_read f g r.0 r.1
   group_read f (Section bs g) s h = section_read f bs s h >>= λ r. group_read f g r.0 r.1
 
   pub section_read : File → Branches → State → Here → Result (State × Here) Halt
@@ -33,9 +33,9 @@ abbrev mutual
   section_read f (Otherwise l g e) s h = group_read f g s h
   section_read f (Close e) s h = Ok (s, h)
 
--- a file by its tree, or its fault
+-- a file by its tree, or its fault; no token waits on at its end
 abbrev pub tree_read : File → Result Group FileFault → State → Here → Result State Halt
-tree_read f (Ok g) s h = group_read f g s h >>= λ r. Ok r.0
+tree_read f (Ok g) s h = group_read f g s h >>= λ r. released f r.0 r.1 >>= λ q. Ok q.0
 tree_read f (Err fault) s h = halting f fault.1 s (Err fault.0)
 
 -- with one more file read

@@ -1,8 +1,8 @@
 -- What a preprocessing carries, and how it stops.
-use Rattle.std.specs.Prelude.{ℕ, Bool, false, List, [], ◌∷◌, Option, Some, None, Result, Ok, Err, ℤ, pos, unwrap_or}
+use Rattle.std.specs.Prelude.{ℕ, Bool, false, List, [], ◌∷◌, Option, None, Result, Ok, Err, ℤ, pos, unwrap_or}
 use Rattle.inc_token.specs.declared.kinds.Kind.{Kind}
+use Rattle.inc_token.specs.TokenLines.{Tok}
 use Rattle.inc_lookup.specs.declared.projects.DirectiveId.{DirectiveId}
-use Rattle.inc_lookup.specs.declared.projects.Found.{Found}
 use Rattle.inc_lookup.specs.Projects.{Layout, Listing, layout_of, path_at}
 use Rattle.inc_macro.specs.Macros.{Table}
 use Rattle.inc_expand.specs.Expansion.{Place, Item, Meter, first_meter, in_quotes, escaped}
@@ -52,6 +52,10 @@ pub record Here : Type 0 where
   pub name : List ℕ
   -- how it came to be read
   pub standing : Standing
+  -- the tokens of text lines that wait for the rest of a call
+  pub waiting : List Tok
+  -- how many parentheses of the call are open
+  pub deep : ℕ
 
 -- where it stopped, and what was read and put out before
 pub record Halt : Type 0 where
@@ -89,6 +93,8 @@ start layout e = record {
   shift = pos 0;
   name = in_quotes (escaped (shown_path layout e.at.file e.standing.spelled));
   standing = e.standing;
+  waiting = [];
+  deep = 0;
 }
 
 -- nothing is read yet, all units are there, and no count was given

@@ -8,11 +8,12 @@ use Rattle.inc_macro.specs.Results.{◌>>=◌}
 use Rattle.inc_pp.specs.declared.frames.Frame.{Frame}
 use Rattle.inc_pp.specs.Files.{FileFault}
 use Rattle.inc_pp.specs.Preprocessing.{group_read, most_depth, reading}
+use Rattle.inc_pp.specs.Runs.{released}
 use Rattle.inc_pp.specs.Tasks.{Task, State, Here, Halt, Deeper, File}
 
 -- what follows a group that was read: an #elif or #else leads after the #endif
 abbrev pub ending_read : File → Ending → State → Here → Result (State × Here) Halt
-ending_read f FileEnd s h = Ok (s, h)
+ending_read f FileEnd s h = released f s h
 ending_read f (Faulty fault) s h = Ok (s, h)
 ending_read f (AtElif l g e) s h = ending_read f e s h
 ending_read f (AtElse l g e) s h = ending_read f e s h

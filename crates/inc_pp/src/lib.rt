@@ -22,6 +22,7 @@ mod line_steps;
 mod lines;
 mod literals;
 pub mod memory_laws;
+mod open_calls;
 mod operators;
 mod outcomes;
 mod output;
@@ -29,6 +30,7 @@ mod pragmas;
 mod runs;
 mod settings;
 mod states;
+mod waiting;
 mod walks;
 
 pub use causes::{Cause, Stop};

@@ -1,5 +1,5 @@
 //! Names and numbers of lines (ISO/IEC 9899:2018, 6.10.4).
-ghost use Rattle.std.specs.Prelude.{◌≡◌, ◌<◌, ◌*◌, ◌+◌, ◌&&◌, Some, bytes_eq, codes, length, None, map, nat_le, if◌then◌else◌, IfOk, option_map};
+ghost use Rattle.std.specs.Prelude.{◌≡◌, ◌<◌, ◌*◌, ◌+◌, ◌++◌, ◌&&◌, [], Some, bytes_eq, codes, length, None, map, nat_le, if◌then◌else◌, IfOk, OnOk, option_map};
 ghost use Rattle.std.specs.List.{list_all};
 ghost use Rattle.inc_token.specs.Spellings.{is_digit};
 ghost use Rattle.inc_token.specs.Views.{seen};
@@ -9,6 +9,7 @@ ghost use Rattle.inc_cond.specs.Constants.{digit_of, number_in};
 ghost use Rattle.inc_pp.specs.Directives as spec;
 ghost use Rattle.inc_pp.specs.DirectiveSteps.{here_by};
 ghost use Rattle.inc_pp.specs.LineMarkers.{marks_of};
+ghost use Rattle.inc_pp.specs.Runs.{with_waiting};
 ghost use Rattle.inc_pp.specs.Steps.{place_under};
 ghost use Rattle.inc_pp.specs.Tasks.{start};
 
@@ -17,6 +18,7 @@ use crate::headers::is_plain_string;
 use crate::lines::operands;
 use crate::literals::literal_of;
 use crate::settings::Settings;
+use crate::waiting::Waiting;
 use inc_directive::DirectiveKind;
 use inc_expand::{Item, Place};
 use inc_lookup::Project;
@@ -34,6 +36,10 @@ pub(crate) struct Here {
     pub(crate) name: Vec<u8>,
     /// How it came to be read.
     pub(crate) standing: Standing,
+    /// The tokens of text lines that wait for the rest of a call.
+    pub(crate) waiting: Waiting,
+    /// How many parentheses of the call are open.
+    pub(crate) deep: usize,
 }
 
 impl Model for Here {
@@ -41,7 +47,7 @@ impl Model for Here {
 
     ghost Value = { Here };
 
-    ghost view = { λ h. record { shift = h.shift; name = h.name.items; standing = h.standing } };
+    ghost view = { λ h. record { shift = h.shift; name = h.name.items; standing = h.standing; waiting = h.waiting; deep = h.deep } };
 }
 
 /// How lines are numbered, and what their file is called.
@@ -77,6 +83,8 @@ impl Here {
             shift: 0,
             name,
             standing,
+            waiting: Waiting::none(alloc),
+            deep: 0,
         })
     }
 
@@ -103,6 +111,23 @@ impl Here {
         let Numbering { shift, name } = numbering;
         self.shift = shift;
         self.name = name;
+    }
+
+    /// Has more tokens wait, with so many parentheses open after them.
+    pub(crate) fn wait(&mut self, tokens: &[Token<'_>], deep: usize) -> Result<(), AllocError>
+        ensures { OnOk result (self.new ≡ with_waiting (self.old.waiting ++ map seen tokens.now) deep self.old) }
+    {
+        self.waiting.add(tokens)?;
+        self.deep = deep;
+        Ok(())
+    }
+
+    /// Has none wait.
+    pub(crate) fn release(&mut self)
+        ensures { self.new ≡ with_waiting [] 0 self.old }
+    {
+        self.waiting.clear();
+        self.deep = 0;
     }
 
     /// Takes what a directive of no section says of the lines that follow in the file: `#line` is not among these.

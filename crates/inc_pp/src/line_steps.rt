@@ -107,7 +107,8 @@ fn read_run(
     let part = frame.part;
     let end = lines.run_end(part);
     let at = frame.at;
-    match state.put_run(settings, lines, part, end, at.file, &frame.here) {
+    let here = &mut frame.here;
+    match state.put_run(settings, lines, part, end, at.file, here) {
         Ok(()) => {
             frame.part = end;
             Ok(())
@@ -148,6 +149,10 @@ fn read_control(
     let part = frame.part;
     let at = frame.at;
     let here = &mut frame.here;
+    match state.release(settings, at.file, here) {
+        Ok(()) => {}
+        Err(fault) => return Err(fault),
+    }
     match state.control(project, settings, lines, part, &at, nests, here) {
         Ok(found) => {
             frame.part = part + 1;

@@ -142,10 +142,14 @@ impl<'j, 'r> Job<'j, 'r> {
             // Each file that is being read is held.
             return Ok(());
         };
-        if frame.part >= held.count() {
-            return Ok(());
-        }
         let settings = self.settings;
+        if frame.part >= held.count() {
+            let here = &mut frame.here;
+            match state.release(settings, file, here) {
+                Ok(()) => return Ok(()),
+                Err(why) => return Err(why),
+            }
+        }
         let found = match held.read(state, self.project, settings, &mut frame, nests) {
             Ok(found) => found,
             Err(why) => return Err(why),

@@ -1,6 +1,6 @@
 -- Where each include line of a near file leads to a near file, or begins with a name that no line of a near file defines, a preprocessing
 -- that begins near reads near files alone. A file is near by how it was found.
-use Rattle.std.proofs.Common.{◌≡◌, ◌≢◌, refl, sym, ◌∙◌, ℕ, zero, suc, Bool, true, false, cond, List, [], ◌∷◌, Option, Some, None, Result, Ok, Err, IfOk, length, drop}
+use Rattle.std.proofs.Common.{◌≡◌, ◌≢◌, refl, sym, ◌∙◌, ℕ, zero, suc, Bool, true, false, cond, List, [], ◌∷◌, ◌++◌, Option, Some, None, Result, Ok, Err, IfOk, length, drop, nat_lt}
 use Rattle.std.specs.Prelude.{IfSome, nat_le, option_map, codes, ok_or}
 use Rattle.std.proofs.lemmas.Result.{IfOk-at_ok}
 use Rattle.inc_directive.specs.Groups.{FileLine, Group, Branches, Empty, Run, Control, Section, Branch, Otherwise, Close, lines_of, lines_of_branches}
@@ -29,7 +29,8 @@ use Rattle.inc_pp.specs.Files.{FileFault, tree_of}
 use Rattle.inc_pp.specs.Includes.{Header, after_found, found_from, header_of, is_done, is_import, not_found, wanted, led_to, entered, include_target, included}
 use Rattle.inc_pp.specs.Preprocessing.{Outcome, group_read, section_read, tree_read, file_read, reading, most_depth, named_settings, outcome_of, with_read, preprocessing}
 use Rattle.inc_pp.specs.Pragmas.{is_stacking, restacked, stacked, stacked_name}
-use Rattle.inc_pp.specs.Runs.{expanded, run_put, run_read}
+use Rattle.inc_pp.specs.OpenCalls.{open_in}
+use Rattle.inc_pp.specs.Runs.{expanded, run_put, run_read, text_read, tokens_read, waiting_read, with_waiting}
 use Rattle.inc_pp.specs.Sections.{condition_of, operands}
 use Rattle.inc_pp.specs.Settings.{Settings}
 use Rattle.inc_pp.specs.Entries.{FileToRead}
@@ -130,9 +131,26 @@ module _ (Near : Found → Type 0) (Absent : List ℕ → Type 0) where
   put_near : (f : File) (h : Here) (s : State) (ts : List Tok) → IsNear s → Keeps IsNear (run_put f h s ts)
   put_near f h s ts n = keeps_then (expanded_near f h s ts n) (λ r k. keeps_after _ (λ l. keeps_ok k))
 
+  tokens_near : (f : File) (ts : List Tok) (s : State) (h : Here) → IsNear s → Holds IsNearHere IsNear (tokens_read f ts s h)
+  tokens_near f ts s h n = holds_then (holds_halting f (line_of_tokens ts) s (run_put f h s ts) n (put_near f h s ts n)) (λ t k. holds_ok k)
+
+  wait_near : (b : Bool) (x : State × Here) (r : Result (State × Here) Halt) → IsNearHere x → Holds IsNearHere IsNear r
+      → Holds IsNearHere IsNear (elim b as (λ _. Result (State × Here) Halt) [ true ↦ Ok x | false ↦ r ])
+  wait_near true x r n h = holds_ok n
+  wait_near false x r n h = h
+
+  text_near : (f : File) (ts : List Tok) (s : State) (h : Here) → IsNear s → Holds IsNearHere IsNear (text_read f ts s h)
+  text_near f [] s h n = holds_ok n
+  text_near f (t ∷ ts) s h n =
+      wait_near (nat_lt 0 (open_in s.table h.deep (t ∷ ts))) (s, with_waiting (h.waiting ++ t ∷ ts) (open_in s.table h.deep (t ∷ ts)) h)
+      (tokens_read f (h.waiting ++ t ∷ ts) s h) n (tokens_near f (h.waiting ++ t ∷ ts) s h n)
+
   run_near : (f : File) (ls : List FileLine) (s : State) (h : Here) → IsNear s → Holds IsNearHere IsNear (run_read f ls s h)
-  run_near f ls s h n =
-      holds_then (holds_halting f (line_of_tokens (run_tokens ls)) s (run_put f h s (run_tokens ls)) n (put_near f h s (run_tokens ls) n)) (λ t k. holds_ok k)
+  run_near f ls s h n = text_near f (run_tokens ls) s h n
+
+  waiting_near : (f : File) (ts : List Tok) (s : State) (h : Here) → IsNear s → Holds IsNearHere IsNear (waiting_read f ts s h)
+  waiting_near f [] s h n = holds_ok n
+  waiting_near f (t ∷ ts) s h n = tokens_near f (t ∷ ts) s h n
 
   condition_near : (kind : LineKind) (f : File) (l : FileLine) (s : State) (h : Here) → IsNear s → Keeps (IsNearAfter Bool) (condition_of kind f l s h)
   condition_near (Other Ifdef) f l s h n = keeps_after _ (λ x. keeps_ok n)
@@ -290,7 +308,8 @@ module _ (Near : Found → Type 0) (Absent : List ℕ → Type 0) where
     group_near f Empty s h d each n = holds_ok n
     group_near f (Run ls g) s h d each n =
         holds_then (run_near f ls s h n) (λ r k. group_near f g r.0 r.1 d (each_behind (LineLeadsNear f.task (at_hand f)) ls (lines_of g) each) k)
-    group_near f (Control l g) s h d each n = holds_then (control_near l.kind f l s h d each.0 n) (λ r k. group_near f g r.0 r.1 d each.1 k)
+    group_near f (Control l g) s h d each n =
+        holds_then (holds_then (waiting_near f h.waiting s h n) (λ p k. control_near l.kind f l p.0 p.1 d each.0 k)) (λ r k. group_near f g r.0 r.1 d each.1 k)
     group_near f (Section bs g) s h d each n =
         holds_then (section_near f bs s h d (each_before (LineLeadsNear f.task (at_hand f)) (lines_of_branches bs) (lines_of g) each) n)
         (λ r k. group_near f g r.0 r.1 d (each_behind (LineLeadsNear f.task (at_hand f)) (lines_of_branches bs) (lines_of g) each) k)
@@ -307,7 +326,7 @@ module _ (Near : Found → Type 0) (Absent : List ℕ → Type 0) where
 
   tree_near : (f : File) (r : Result Group FileFault) (s : State) (h : Here) → IsDeeperNear f.deeper → ((g : Group) → r ≡ Ok g → Each (LineLeadsNear f.task (at_hand f)) (lines_of g)) → IsNear s
       → Holds IsNear IsNear (tree_read f r s h)
-  tree_near f (Ok g) s h d each n = holds_then (group_near f g s h d (each g refl) n) (λ r k. holds_ok k)
+  tree_near f (Ok g) s h d each n = holds_then (group_near f g s h d (each g refl) n) (λ r k. holds_then (waiting_near f r.1.waiting r.0 r.1 k) (λ q i. holds_ok i))
   tree_near f (Err fault) s h d each n = holds_halting f fault.1 s (Err fault.0) n keeps_err
 
   module _ (t : Task) (each : (at : Found) → Near at → (g : Group) → tree_of t.settings.language t.listing t.without at.file ≡ Ok g → Each (LineLeadsNear t at) (lines_of g)) where
