@@ -8,6 +8,7 @@ pub mod StopSteps
 pub mod OperatorSteps
 pub mod RunSteps
 pub mod TextRuns
+pub mod WaitingParts
 pub mod CallScans
 pub mod TakenSteps
 pub mod Walking

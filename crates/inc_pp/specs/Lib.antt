@@ -6,6 +6,7 @@ pub mod Entries
 pub mod LineMarkers
 pub mod Pragmas
 pub mod OpenCalls
+pub mod CallSteps
 pub mod Waiting
 pub mod Runs
 pub mod Sections

@@ -1,6 +1,17 @@
--- Tokens that wait for the rest of a call, as the definitions see them.
+-- Tokens that wait for the rest of a call, as the definitions see them. Their spellings lie one after the other in one list of bytes.
+use Rattle.std.specs.Prelude.{ℕ, ◌≡◌, ◌≤◌, ◌-◌, List, [], ◌∷◌, drop, take}
 use Rattle.inc_token.specs.TokenLines.{Tok}
-use Rattle.inc_pp.specs.declared.waiting.Own.{Own}
+use Rattle.inc_pp.specs.declared.waiting.Part.{Part}
 
-abbrev pub own_token : Own → Tok
-own_token t = record { kind = t.kind; spelling = t.spelling.items; first = t.first; last = t.last; line = t.line; space = t.space }
+abbrev pub token_of : Part → (spelling : List ℕ) → Tok
+token_of p spelling = record { kind = p.kind; spelling = spelling; first = p.first; last = p.last; line = p.line; space = p.space }
+
+-- tokens, the spelling of the first of which begins at a place, and that of each other one where the one before it ends
+abbrev pub tokens_in : (bytes : List ℕ) → (begin : ℕ) → List Part → List Tok
+tokens_in bytes begin [] = []
+tokens_in bytes begin (p ∷ ps) = token_of p (take (p.end - begin) (drop begin bytes)) ∷ tokens_in bytes p.end ps
+
+-- no spelling ends before it begins, and the last one ends where the bytes do
+abbrev pub AreEnds : (begin : ℕ) → (len : ℕ) → List Part → Type 0
+AreEnds begin len [] = begin ≡ len
+AreEnds begin len (p ∷ ps) = (begin ≤ p.end) × AreEnds p.end len ps

@@ -126,7 +126,9 @@ impl Here {
     pub(crate) fn release(&mut self)
         ensures { self.new ≡ with_waiting [] 0 self.old }
     {
-        self.waiting.clear();
+        if !self.waiting.is_empty() {
+            self.waiting.clear();
+        }
         self.deep = 0;
     }
 

@@ -1,7 +1,8 @@
 //! Calls that are open where a run of text lines ends.
-ghost use Rattle.std.specs.Prelude.{◌≡◌, ◌<◌, ◌∷◌, [], map, option_and_then, option_map, slice_get, length, if◌then◌else◌, IfOk};
+ghost use Rattle.std.specs.Prelude.{◌≡◌, ◌<◌, ◌≤◌, ◌+◌, ◌∷◌, [], map, option_and_then, option_map, slice_get, length, if◌then◌else◌, IfOk};
 ghost use Rattle.inc_token.specs.Views.{seen};
 ghost use Rattle.inc_macro.specs.Tables.{table_of};
+ghost use Rattle.inc_pp.specs.CallSteps.{open_from, token_before};
 ghost use Rattle.inc_pp.specs.OpenCalls as spec;
 
 use inc_macro::{Definition, Macros};
@@ -52,14 +53,14 @@ fn begins_call(macros: &Macros, name: &[u8]) -> bool
 fn is_open(token: &Token<'_>) -> bool
     ensures { result ≡ spec.is_open (seen token.now) }
 {
-    token.spelling == b"(".as_slice()
+    matches!(token.spelling, [b'('])
 }
 
 /// Whether it is `)`.
 fn is_close(token: &Token<'_>) -> bool
     ensures { result ≡ spec.is_close (seen token.now) }
 {
-    token.spelling == b")".as_slice()
+    matches!(token.spelling, [b')'])
 }
 
 /// Whether the token before a `(` begins a call with it.
@@ -105,6 +106,36 @@ fn open_after(
     Ok(deep)
 }
 
+/// The token before that at a place.
+fn before<'t, 's>(tokens: &'t [Token<'s>], at: usize) -> Option<&'t Token<'s>>
+    requires { at ≤ length tokens.now }
+    ensures { option_map (λ t. seen t.now) result ≡ token_before at (map seen tokens.now) }
+{
+    if at == 0 {
+        return None;
+    }
+    Some(&tokens[at - 1])
+}
+
+/// How many are open after the token at a place. Most tokens are no parentheses by their length alone.
+fn open_past(
+    macros: &Macros,
+    tokens: &[Token<'_>],
+    at: usize,
+    deep: usize,
+) -> Result<usize, AllocError>
+    requires { at < length tokens.now }
+    ensures { IfOk result (λ after. open_from (table_of macros.now) after (at + 1) (map seen tokens.now)
+        ≡ open_from (table_of macros.now) deep at (map seen tokens.now)) }
+{
+    let token = &tokens[at];
+    if token.spelling.len() != 1 {
+        return Ok(deep);
+    }
+    let after = open_after(macros, before(tokens, at), deep, token)?;
+    Ok(after)
+}
+
 /// How many are open after a run of text lines, before which so many are open.
 pub(crate) fn open_in(
     macros: &Macros,
@@ -116,11 +147,9 @@ pub(crate) fn open_in(
     if !macros.language().is_gnu() {
         return Ok(0);
     }
-    let mut before = None;
     let mut after = deep;
-    for token in tokens {
-        after = open_after(macros, before, after, token)?;
-        before = Some(token);
+    for at in 0..tokens.len() {
+        after = open_past(macros, tokens, at, after)?;
     }
     Ok(after)
 }

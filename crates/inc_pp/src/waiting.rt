@@ -1,16 +1,16 @@
 //! The tokens of text lines that wait for the rest of a call.
-ghost use Rattle.std.specs.Prelude.{◌≡◌, ◌++◌, [], map, true, false, OnOk, IfOk};
+ghost use Rattle.std.specs.Prelude.{◌≡◌, ◌+◌, ◌++◌, ◌∷◌, [], map, true, false, OnOk, IfOk};
 ghost use Rattle.inc_token.specs.Views.{seen};
-ghost use Rattle.inc_pp.specs.Waiting.{own_token};
+ghost use Rattle.inc_pp.specs.Waiting.{token_of};
 
 use inc_token::{Kind, Token};
 use std::alloc::{AllocError, Global};
 use std::marker::Model;
 
-/// A token whose spelling is its own.
-#[derive(Drop)]
-struct Own {
-    spelling: Vec<u8>,
+/// A token, and where its spelling ends among the bytes of all.
+#[derive(Clone, Copy)]
+pub(crate) struct Part {
+    end: u32,
     first: u32,
     last: u32,
     line: u32,
@@ -18,49 +18,50 @@ struct Own {
     space: bool,
 }
 
-/// Tokens that are kept until the lines of a file are no longer at hand from which they are.
+/// Tokens that are kept until the lines of a file are no longer at hand from which they are. Their spellings lie one after the other in one list, so that
+/// a token takes no allocation of its own.
 #[derive(Drop)]
 pub(crate) struct Waiting {
     alloc: Global,
-    tokens: Vec<Own>,
+    bytes: Vec<u8>,
+    parts: Vec<Part>,
 }
 
 impl Model for Waiting {
-    ghost use Rattle.std.specs.Prelude.{List, map};
+    ghost use Rattle.std.specs.Prelude.{List, length};
     ghost use Rattle.inc_token.specs.TokenLines.{Tok};
-    ghost use Rattle.inc_pp.specs.Waiting.{own_token};
+    ghost use Rattle.inc_pp.specs.Waiting.{tokens_in, AreEnds};
 
     ghost Value = { List Tok };
 
-    ghost view = { λ w. map own_token w.tokens.items };
-}
+    ghost view = { λ w. tokens_in w.bytes.items 0 w.parts.items };
 
-/// The token with a spelling of its own.
-fn owned(alloc: Global, token: &Token<'_>) -> Result<Own, AllocError>
-    ensures { IfOk result (λ made. own_token made ≡ seen token.now) }
-{
-    Ok(Own {
-        spelling: Vec::from_slice(alloc, token.spelling)?,
-        first: token.first,
-        last: token.last,
-        line: token.line,
-        kind: token.kind,
-        space: token.space,
-    })
+    ghost invariant = { λ w. AreEnds 0 (length w.bytes.items) w.parts.items };
 }
 
 /// The token, its spelling lent.
-fn lent(token: &Own) -> Token<'_>
-    ensures { seen result ≡ own_token token.now }
+fn lent<'w>(part: &Part, spelling: &'w [u8]) -> Token<'w>
+    ensures { seen result ≡ token_of part.now spelling.now }
 {
     Token {
-        spelling: &token.spelling,
-        first: token.first,
-        last: token.last,
-        line: token.line,
-        kind: token.kind,
-        space: token.space,
+        spelling,
+        first: part.first,
+        last: part.last,
+        line: part.line,
+        kind: part.kind,
+        space: part.space,
     }
+}
+
+/// Where a list of this length ends with so many bytes more. An end that a part has no room for is refused as if memory had run out.
+fn end_after(length: usize, more: usize) -> Result<u32, AllocError>
+    ensures { IfOk result (λ end. end ≡ length + more) }
+{
+    let end = length.saturating_add(more);
+    if end > u32::MAX as usize {
+        return Err(AllocError);
+    }
+    Ok(end as u32)
 }
 
 impl Waiting {
@@ -70,7 +71,8 @@ impl Waiting {
     {
         Waiting {
             alloc,
-            tokens: Vec::new(alloc),
+            bytes: Vec::new(alloc),
+            parts: Vec::new(alloc),
         }
     }
 
@@ -79,16 +81,36 @@ impl Waiting {
         ensures none { result ≡ true → self.now ≡ [] }
         ensures some { self.now ≡ [] → result ≡ true }
     {
-        self.tokens.is_empty()
+        self.parts.is_empty()
     }
 
     /// Adds more.
     pub(crate) fn add(&mut self, tokens: &[Token<'_>]) -> Result<(), AllocError>
         ensures { OnOk result (self.new ≡ self.old ++ map seen tokens.now) }
     {
+        self.parts.reserve(tokens.len())?;
         for token in tokens {
-            self.tokens.push(owned(self.alloc, token)?)?;
+            self.push(token)?;
         }
+        Ok(())
+    }
+
+    /// Adds one.
+    fn push(&mut self, token: &Token<'_>) -> Result<(), AllocError>
+        ensures { OnOk result (self.new ≡ self.old ++ seen token.now ∷ []) }
+    {
+        let end = end_after(self.bytes.len(), token.spelling.len())?;
+        // Once there is room for the part, no bytes can be there without it.
+        self.parts.reserve(1)?;
+        self.bytes.extend_from_slice(token.spelling)?;
+        self.parts.push_reserved(Part {
+            end,
+            first: token.first,
+            last: token.last,
+            line: token.line,
+            kind: token.kind,
+            space: token.space,
+        });
         Ok(())
     }
 
@@ -96,9 +118,12 @@ impl Waiting {
     pub(crate) fn tokens(&self) -> Result<Vec<Token<'_>>, AllocError>
         ensures { IfOk result (λ tokens. map seen tokens.items ≡ self.now) }
     {
-        let mut all = Vec::with_capacity(self.alloc, self.tokens.len())?;
-        for token in &self.tokens {
-            all.push(lent(token))?;
+        let mut all = Vec::with_capacity(self.alloc, self.parts.len())?;
+        let mut begin = 0;
+        for part in &self.parts {
+            let end = part.end as usize;
+            all.push(lent(part, &self.bytes[begin..end]))?;
+            begin = end;
         }
         Ok(all)
     }
@@ -107,6 +132,6 @@ impl Waiting {
     pub(crate) fn clear(&mut self)
         ensures { self.new ≡ [] }
     {
-        self.tokens = Vec::new(self.alloc);
+        *self = Waiting::none(self.alloc);
     }
 }

@@ -1,10 +1,8 @@
-use Rattle.std.proofs.Common.{◌≡◌, None, drop, map, option_map}
+use Rattle.std.proofs.Common.{◌≡◌, map}
 use Rattle.inc_token.specs.Views.{seen}
 use Rattle.inc_macro.specs.Tables.{table_of}
-use Rattle.inc_pp.specs.OpenCalls.{open_behind}
+use Rattle.inc_pp.specs.CallSteps.{open_from}
 use Rattle.inc_pp.proofs.open_calls.open_in.Given as goal
 
-abbrev pub invariant-loop-token : goal.invariant-loop-token
-invariant-loop-token l =
-    open_behind (table_of l.macros) (option_map (λ t. seen t.now) l.before) l.after (map seen (drop l.token-index l.tokens))
-    ≡ open_behind (table_of l.macros) None l.fn.deep (map seen l.tokens)
+abbrev pub invariant-loop-at : goal.invariant-loop-at
+invariant-loop-at l = open_from (table_of l.macros) l.after l.at (map seen l.tokens) ≡ open_from (table_of l.macros) l.fn.deep 0 (map seen l.tokens)
