@@ -1,5 +1,5 @@
 -- The chains of a document, one after the other.
-use Rattle.std.proofs.Common.{◌≡◌, ℕ, ◌+◌, ◌<◌, List, [], ◌∷◌, ◌++◌, drop, get_or, length, ap, sym, ◌∙◌}
+use Rattle.std.proofs.Common.{◌≡◌, ℕ, ◌+◌, ◌<◌, List, ◌++◌, drop, get_or, length, ap, sym, ◌∙◌}
 use Rattle.std.proofs.lemmas.List.{append_assoc, drop_more}
 use Rattle.inc_graph.specs.Cuts.{Counted}
 use Rattle.inc_graph.specs.IncludeGraph.{Graph}

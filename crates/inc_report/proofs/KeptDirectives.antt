@@ -1,13 +1,12 @@
 -- The files of the directives of documents are kept.
-use Rattle.std.proofs.Common.{◌≡◌, ℕ, suc, ◌+◌, ◌<◌, Bool, true, false, List, [], ◌∷◌, ◌++◌, Option, Some, None, cond, length, map, is_some, refl, subst, arith}
-use Rattle.std.specs.Prelude.{filter_map, flat_map, slice_get, IsTrue}
+use Rattle.std.proofs.Common.{◌≡◌, ℕ, ◌+◌, Bool, true, false, List, [], ◌∷◌, ◌++◌, Option, Some, None, cond, length, map, is_some, refl, subst}
+use Rattle.std.specs.Prelude.{flat_map, slice_get, IsTrue}
 use Rattle.std.specs.List.{All, cons_option}
 use Rattle.std.proofs.lemmas.List.Elements.{All-append, All-cons, All-head, All-map, All-nil, All-tail}
 use Rattle.inc_lookup.specs.declared.projects.DirectiveId.{DirectiveId}
 use Rattle.inc_lookup.specs.Projects.{Layout}
 use Rattle.inc_graph.specs.Cuts.{Counted, directives_of}
 use Rattle.inc_graph.specs.IncludeGraph.{Edge, Graph}
-use Rattle.inc_graph.specs.MissingLists.{Missing}
 use Rattle.inc_graph.specs.Reaching.{Reaching}
 use Rattle.inc_graph.specs.declared.graphs.Blocker.{Blocker}
 use Rattle.inc_graph.specs.declared.graphs.BlockerKind.{BlockerKind}
@@ -15,7 +14,7 @@ use Rattle.inc_report.specs.CutDocument.{chain_blocks, chains_from, cut_document
 use Rattle.inc_report.specs.Documents.{AreGraphKept, AreKept, Block, IsKept, Led, Place, Words, edge_places, listed, places}
 use Rattle.inc_report.specs.KeptFiles.{Kept, kept_at}
 use Rattle.inc_report.specs.WhoDocument.{in_blocks, led, reaching_blocks, reaching_by, who_document}
-use Rattle.inc_report.specs.WhyDocument.{blocker_blocks, blocker_if, blocker_ids, is_kind, is_same, last_of, missing_blocks, missing_id, other_blocks, other_lasts, reached_by, reached_document, shortest_blocks, unreached_document, unresolved_blocks, way_blocks, why_document, whole_way}
+use Rattle.inc_report.specs.WhyDocument.{blocker_blocks, blocker_if, blocker_ids, is_kind, is_same, last_of, missing_blocks, missing_id, other_blocks, other_lasts, reached_by, shortest_blocks, unresolved_blocks, way_blocks, why_document, whole_way}
 use Rattle.inc_graph.specs.declared.graphs.BlockerKind.TheVariants.{Computed, Foreign, Several}
 use Rattle.inc_report.proofs.CutDirectives.{directives_all}
 

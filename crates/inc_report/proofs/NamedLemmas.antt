@@ -1,7 +1,7 @@
 -- What is printed in which directives stand as they are written, by what was read and kept, and what that promises.
 use Rattle.std.proofs.Common.{◌≡◌, ◌≢◌, ℕ, ◌<◌, Bool, true, false, ◌==◌, List, [], ◌∷◌, ◌++◌, Option, Some, None, Result, Ok, length, get_or, is_some, inl, inr, refl, sym, ap, subst, ◌∙◌, arith}
-use Rattle.std.specs.Prelude.{replicate, slice_get, unwrap_or, flat_map, IsTrue}
-use Rattle.std.specs.List.{All, Contains, list_any}
+use Rattle.std.specs.Prelude.{replicate, IsTrue}
+use Rattle.std.specs.List.{All, list_any}
 use Rattle.std.proofs.lemmas.Bool.{eqb-false, or_parts}
 use Rattle.std.proofs.lemmas.List.{get_or_default, length-replicate}
 use Rattle.std.proofs.lemmas.List.Elements.{All-head, All-tail, All-cons, All-nil}
@@ -11,13 +11,13 @@ use Rattle.inc_lookup.specs.declared.projects.DirectiveId.{DirectiveId}
 use Rattle.inc_lookup.specs.Given.{Given, Agrees, HoldsOfGiven}
 use Rattle.inc_lookup.specs.Projects.{Layout, Listing, layout_of, bytes_at}
 use Rattle.inc_lookup.proofs.GivenLemmas.{given_all, laid_count, laid_with, with_bytes, agrees_more}
-use Rattle.inc_graph.specs.Cuts.{Counted, fixed_by, costs_by, directives_of, IsCut}
-use Rattle.inc_graph.specs.IncludeGraph.{Edge, Graph, IsGraphAnswer}
+use Rattle.inc_graph.specs.Cuts.{fixed_by, directives_of}
+use Rattle.inc_graph.specs.IncludeGraph.{Graph, IsGraphAnswer}
 use Rattle.inc_graph.specs.MarkedEdges.{amounts_by}
 use Rattle.inc_graph.specs.MissingLists.{Missing}
 use Rattle.inc_graph.specs.declared.graphs.Blocker.{Blocker}
-use Rattle.inc_report.specs.CutDocument.{cut_document, fixed_document, has_costs}
-use Rattle.inc_report.specs.CutText.{WithAmounts, marks_refusal}
+use Rattle.inc_report.specs.CutDocument.{has_costs}
+use Rattle.inc_report.specs.CutText.{marks_refusal}
 use Rattle.inc_report.specs.DirectiveNames.{kept_name, name_at, name_of}
 use Rattle.inc_report.specs.Documents.{AreGraphKept, AreKept, Block, IsKept, Led, Place, Words, block_text, document_text}
 use Rattle.inc_report.specs.KeptFiles.{Fits, Kept, OfKept, keeps, kept_at}

@@ -1,5 +1,5 @@
 -- The text that `check` prints.
-use Rattle.std.specs.Prelude.{◌≡◌, ◌⊎◌, ℕ, List, ◌++◌, length, codes, decimal}
+use Rattle.std.specs.Prelude.{◌≡◌, ◌⊎◌, ℕ, List, ◌++◌, codes, decimal}
 use Rattle.inc_report.specs.MissingNotes.{empty_notes}
 use Rattle.inc_report.specs.Terms.{Question, Limits}
 use Rattle.inc_lookup.specs.Given.{Given}

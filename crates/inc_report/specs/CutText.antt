@@ -1,5 +1,5 @@
 -- The text that `cut` prints, and what comes before the answers about cuts: the refusals of blockers, of marks and of costs.
-use Rattle.std.specs.Prelude.{◌≡◌, ◌≢◌, ◌⊎◌, ℕ, List, [], ◌∷◌, Option, Some, None, option_map, option_and_then, slice_get, length, codes}
+use Rattle.std.specs.Prelude.{◌≡◌, ◌≢◌, ◌⊎◌, ℕ, List, [], ◌∷◌, Option, Some, None, option_map, option_and_then, slice_get, codes}
 use Rattle.inc_report.specs.BlockedReasons.{blocked_reasons}
 use Rattle.inc_report.specs.MissingNotes.{empty_notes}
 use Rattle.inc_report.specs.Terms.{Question, Limits}

@@ -1,11 +1,9 @@
 -- The notes on headers that are not found: how many directives name one, the names most often named, where each is named first, and with
 -- which directory in the include path a file of the project would be found by it.
-use Rattle.std.specs.Prelude.{ℕ, ◌+◌, ◌-◌, ◌*◌, ◌/◌, ◌%◌, ◌++◌, ◌==◌, ◌&&◌, Bool, true, false, List, [], ◌∷◌, Option, Some, None, if◌then◌else◌, bytes_eq, codes, decimal, drop, flat_map, length, map, nat_lt, take}
+use Rattle.std.specs.Prelude.{ℕ, ◌+◌, ◌-◌, ◌/◌, ◌%◌, ◌++◌, ◌==◌, ◌&&◌, List, [], ◌∷◌, Option, Some, None, if◌then◌else◌, bytes_eq, codes, decimal, drop, flat_map, length, nat_lt, take}
 use Rattle.std.specs.Option.{option_map_or}
 use Rattle.inc_text.specs.Ascii.{slash}
 use Rattle.inc_lookup.specs.Projects.{Layout, path_at}
-use Rattle.inc_graph.specs.HeaderNames.{HeaderName}
-use Rattle.inc_graph.specs.IncludeGraph.{Graph}
 use Rattle.inc_graph.specs.MissingLists.{Missing}
 use Rattle.inc_report.specs.MissingNames.{MissingName, missing_names, ranked, spelled}
 use Rattle.inc_report.specs.declared.missing_names.TheConstants.{MOST_NAMES}

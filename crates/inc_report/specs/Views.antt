@@ -1,5 +1,5 @@
 -- Refusals and names of the program as the definitions see them.
-use Rattle.std.specs.Prelude.{◌≡◌, ◌<◌, ◌≤◌, ℕ, List, [], map}
+use Rattle.std.specs.Prelude.{◌≡◌, ◌<◌, ◌≤◌, ℕ, List, map}
 use Rattle.std.specs.List.{All}
 use Rattle.inc_graph.specs.MissingLists.{Missing, missing_at}
 use Rattle.inc_report.specs.declared.refusals.Refusal.{Refusal}

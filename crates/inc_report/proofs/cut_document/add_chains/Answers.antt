@@ -1,9 +1,8 @@
-use Rattle.std.proofs.Common.{◌≡◌, ℕ, ◌+◌, ◌<◌, ◌++◌, ◌∙◌, List, ap, get_or, length, subst, sym, arith}
+use Rattle.std.proofs.Common.{ℕ, ◌+◌, ◌<◌, ◌++◌, ◌∙◌, List, ap, length, subst, sym, arith}
 use Rattle.std.specs.List.{All}
 use Rattle.std.proofs.lemmas.Option.{get_or_from_slice_get}
 use Rattle.inc_graph.specs.Cuts.{Counted}
 use Rattle.inc_report.specs.CutDocument.{chain_blocks}
-use Rattle.inc_report.specs.Documents.{Block}
 use Rattle.inc_report.proofs.ChainBlocks.{next_chain}
 use Rattle.inc_report.proofs.CutLemmas.{chain_at, chain_is}
 use Rattle.inc_report.proofs.cut_document.add_chains.Goals as goal

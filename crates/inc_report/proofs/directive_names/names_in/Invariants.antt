@@ -1,4 +1,4 @@
-use Rattle.std.proofs.Common.{◌≡◌, ◌++◌, List, ℕ, length, map}
+use Rattle.std.proofs.Common.{◌≡◌, ◌++◌, length, map}
 use Rattle.inc_directive.specs.Parts.{inclusions_in}
 use Rattle.inc_report.specs.DirectiveNames.{named}
 use Rattle.inc_report.specs.NameTables.{seen_named}

@@ -1,4 +1,4 @@
-use Rattle.std.proofs.Common.{◌≡◌, ◌∙◌, List, Ok, Result, IfOk, subst, sym, ap, map}
+use Rattle.std.proofs.Common.{◌∙◌, List, Result, IfOk, subst, sym, ap, map}
 use Rattle.std.specs.List.Sorted.{IsStrictlyIncreasing}
 use Rattle.inc_directive.specs.FileDirectives.{Directive, file_directives}
 use Rattle.inc_directive.specs.declared.files.FileFault.{FileFault}

@@ -1,5 +1,4 @@
-use Rattle.std.proofs.Common.{◌∙◌, ap, ap₂, refl, arith, sym, ◌∷◌, ◌++◌, List, ℕ, ◌||◌, ◌&&◌, ◌==◌, Bool}
-use Rattle.inc_report.specs.MakeRules.{escape, escaped, is_blank, leads_to_blank}
+use Rattle.std.proofs.Common.{arith}
 use Rattle.inc_report.proofs.RuleLemmas.{behind, none_behind}
 use Rattle.inc_report.proofs.make_rules.escaped.Goals as goal
 

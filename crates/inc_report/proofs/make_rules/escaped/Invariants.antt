@@ -1,4 +1,4 @@
-use Rattle.std.proofs.Common.{◌≡◌, ◌≤◌, ℕ, drop, length, reverse}
+use Rattle.std.proofs.Common.{◌≡◌, ◌≤◌, drop, length, reverse}
 use Rattle.inc_report.specs.MakeRules.{escaped, leads_to_blank}
 use Rattle.inc_report.proofs.make_rules.escaped.Given as goal
 

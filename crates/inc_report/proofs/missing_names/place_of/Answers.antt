@@ -1,4 +1,4 @@
-use Rattle.std.proofs.Common.{◌≤◌, subst, sym, arith}
+use Rattle.std.proofs.Common.{arith}
 use Rattle.inc_report.proofs.MissingNameLemmas.{front_more, front_here}
 use Rattle.inc_report.proofs.missing_names.place_of.Goals as goal
 

@@ -1,4 +1,4 @@
-use Rattle.std.proofs.Common.{[], ◌∷◌, ◌++◌, codes}
+use Rattle.std.proofs.Common.{◌++◌, codes}
 use Rattle.std.specs.Prelude.{decimal}
 use Rattle.inc_report.specs.MissingNotes.{note_start, padding}
 use Rattle.inc_report.proofs.NoteLemmas.{joined, joined_as}

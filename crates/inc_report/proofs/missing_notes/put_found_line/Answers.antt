@@ -1,5 +1,4 @@
 use Rattle.std.proofs.Common.{[], ◌∷◌, ◌++◌, codes}
-use Rattle.std.specs.Prelude.{decimal}
 use Rattle.inc_report.specs.MissingNotes.{note_start, shown}
 use Rattle.inc_report.proofs.NoteLemmas.{joined}
 use Rattle.inc_report.proofs.missing_notes.put_found_line.Goals as goal

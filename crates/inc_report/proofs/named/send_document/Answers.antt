@@ -1,7 +1,7 @@
-use Rattle.std.proofs.Common.{◌≡◌, ◌∙◌, List, ℕ, ap, subst, sym}
+use Rattle.std.proofs.Common.{◌∙◌, List, ℕ, ap, subst}
 use Rattle.inc_report.specs.DirectiveNames.{kept_name}
 use Rattle.inc_report.specs.Documents.{document_text}
-use Rattle.inc_report.specs.Printed.{Printed, end_of}
+use Rattle.inc_report.specs.Printed.{end_of}
 use Rattle.inc_report.specs.Sending.{Sends}
 use Rattle.inc_report.proofs.NamedLemmas.{printed_as, text_same}
 use Rattle.inc_report.proofs.named.send_document.Goals as goal

@@ -1,4 +1,4 @@
-use Rattle.std.proofs.Common.{◌≡◌, ◌∙◌, ℕ, List, [], ap, ap₂, arith, map, drop, take, ◌+◌}
+use Rattle.std.proofs.Common.{◌≡◌, ◌∙◌, ℕ, List, ap, ap₂, arith, map, drop, take, ◌+◌}
 use Rattle.std.proofs.lemmas.List.{take_all}
 use Rattle.inc_report.specs.PpTexts.{source_notes}
 use Rattle.inc_report.specs.PpViews.{common_of}

@@ -1,4 +1,4 @@
-use Rattle.std.proofs.Common.{◌≡◌, ◌∙◌}
+use Rattle.std.proofs.Common.{◌∙◌}
 use Rattle.inc_report.proofs.EdgeEnds.{lasts_within}
 use Rattle.std.proofs.Common.{◌<◌, List, ℕ, length, subst, sym}
 use Rattle.std.specs.List.{All}

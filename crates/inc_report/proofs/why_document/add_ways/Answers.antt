@@ -1,4 +1,4 @@
-use Rattle.std.proofs.Common.{◌≡◌, ◌∙◌, ◌++◌, ◌∷◌, [], List, ℕ, suc, ap, sym, arith}
+use Rattle.std.proofs.Common.{◌∙◌, ◌++◌, [], List, ℕ, suc, ap, arith}
 use Rattle.inc_report.specs.Documents.{Block}
 use Rattle.inc_report.specs.WhyDocument.{way_blocks}
 use Rattle.inc_report.proofs.EdgeEnds.{next_added}

@@ -1,5 +1,4 @@
-use Rattle.std.proofs.Common.{◌≡◌, ◌∙◌, ◌++◌, ◌∷◌, [], List, ℕ, ap, sym}
-use Rattle.std.proofs.lemmas.List.{append-nil}
+use Rattle.std.proofs.Common.{◌∙◌, ◌++◌, ◌∷◌, [], List, ℕ, ap}
 use Rattle.inc_report.specs.WhyDocument.{other_last, other_lasts}
 use Rattle.inc_report.proofs.EdgeEnds.{next_kept}
 use Rattle.inc_report.proofs.why_document.lasts_of.Goals as goal
