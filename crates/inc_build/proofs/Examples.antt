@@ -26,7 +26,7 @@ joined_lines = refl
 open_quote : shell_words (codes "a 'b") ≡ None
 open_quote = refl
 
--- joined and apart, passed over, told of
+-- joined and apart, skipped, reported
 asked : items (codes "cc" ∷ codes "-Ia" ∷ codes "-I" ∷ codes "b" ∷ codes "-o" ∷ codes "-Ic" ∷ codes "-Wall" ∷ codes "-isystem" ∷ codes "s" ∷ codes "-DX=1" ∷ codes "-includef.h" ∷ codes "--weird" ∷ codes "-nostdinc" ∷ codes "-std=c99" ∷ codes "@f" ∷ codes "a.c" ∷ [])
     ≡ Given Searched (codes "a") ∷ Given Searched (codes "b") ∷ Given System (codes "s") ∷ Given Defined (codes "X=1") ∷ Given Included (codes "f.h") ∷ Told (codes "--weird") ∷ NoSystem ∷ Standard (codes "c99") ∷ Listed (codes "f") ∷ Operand (codes "a.c") ∷ []
 asked = refl

@@ -9,7 +9,7 @@ use Rattle.inc_build.specs.declared.builds.Use.{Use}
 use Rattle.inc_build.specs.declared.compiler_words.Kind.{Kind}
 use Rattle.inc_build.specs.declared.compiler_words.Kind.TheVariants.{Quoted, Searched, System, Last, Macros, Included, Defined, Undefined}
 
----- include paths as texts, by which they are told apart
+---- include paths as texts that identify them
 
 abbrev pub letter : Kind → ℕ
 letter Quoted = 113

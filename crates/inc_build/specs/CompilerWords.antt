@@ -45,15 +45,15 @@ valued (o ∷ os) word = value_or o.1 (after o.0 word) (valued os word)
 
 ---- options without one
 
--- those whose value is the next word, both passed over
+-- those whose value is the next word, both skipped
 abbrev pub passed_with_value : List (List ℕ)
 passed_with_value = codes "-o" ∷ codes "-x" ∷ codes "-MF" ∷ codes "-MT" ∷ codes "-MQ" ∷ codes "-MJ" ∷ codes "-arch" ∷ codes "-L" ∷ codes "-l" ∷ codes "-aux-info" ∷ codes "-dumpbase" ∷ codes "-dumpdir" ∷ codes "--param" ∷ []
 
--- those that may change which headers are found: told of, with their value, which is the next word
+-- those that may change which headers are found: reported, with their value, which is the next word
 abbrev pub told_with_value : List (List ℕ)
 told_with_value = codes "-isysroot" ∷ codes "--sysroot" ∷ codes "-iprefix" ∷ codes "-iwithprefix" ∷ codes "-iwithprefixbefore" ∷ codes "-imultilib" ∷ codes "-include-pch" ∷ codes "-iframework" ∷ codes "-framework" ∷ codes "-target" ∷ codes "-Xclang" ∷ codes "-Xpreprocessor" ∷ codes "-Xlinker" ∷ codes "-Xassembler" ∷ []
 
--- those that begin with one of these are passed over
+-- those that begin with one of these are skipped
 abbrev pub passed_fronts : List (List ℕ)
 passed_fronts = codes "-W" ∷ codes "-f" ∷ codes "-m" ∷ codes "-O" ∷ codes "-g" ∷ codes "-M" ∷ codes "-L" ∷ codes "-l" ∷ []
 

@@ -188,7 +188,7 @@ fn put_use(
     Ok(())
 }
 
-/// The text by which an include path is told apart.
+/// The text that identifies an include path.
 fn text_of(alloc: Global, rows: &[Row]) -> Result<Vec<u8>, AllocError>
     ensures { IfOk result (λ text. text.items ≡ spec.text_of (map seen_row rows.now)) }
 {

@@ -207,7 +207,7 @@ fn no_value<'w>(word: &'w [u8]) -> Option<Item<'w>>
     }
 }
 
-/// Whether an option and its value, which is the next word, are passed over.
+/// Whether an option and its value, which is the next word, are skipped.
 fn is_passed_with_value(word: &[u8]) -> bool
     ensures { result ≡ spec.is_among spec.passed_with_value word.now }
 {
@@ -226,7 +226,7 @@ fn is_passed_with_value(word: &[u8]) -> bool
         || word == b"--param".as_slice()
 }
 
-/// Whether an option is told of that has the next word as its value.
+/// Whether an option is reported that has the next word as its value.
 fn is_told_with_value(word: &[u8]) -> bool
     ensures { result ≡ spec.is_among spec.told_with_value word.now }
 {
@@ -246,7 +246,7 @@ fn is_told_with_value(word: &[u8]) -> bool
         || word == b"-Xassembler".as_slice()
 }
 
-/// Whether an option without a value is passed over.
+/// Whether an option without a value is skipped.
 fn is_passed(word: &[u8]) -> bool
     ensures { result ≡ spec.is_among spec.passed word.now }
 {
@@ -267,7 +267,7 @@ fn is_passed(word: &[u8]) -> bool
         || word == b"-shared".as_slice()
 }
 
-/// Whether an option is passed over for what it begins with.
+/// Whether an option is skipped for what it begins with.
 fn begins_as_passed(word: &[u8]) -> bool
     ensures { result ≡ spec.begins_among spec.passed_fronts word.now }
 {

@@ -13,7 +13,7 @@ use inc_graph::{EdgeId, Graph};
 use inc_lookup::{FileId, Project};
 use std::alloc::{AllocError, Global};
 
-/// How the chains are told that show that a cut is the cheapest.
+/// How the chains are printed that show that a cut is the cheapest.
 #[derive(Clone, Copy)]
 pub(crate) struct ChainForm {
     /// Whether each is shown.
