@@ -34,7 +34,7 @@ complete -c incut -n '__fish_seen_subcommand_from cut check' -l costs -r -d 'Wha
 complete -c incut -n '__fish_seen_subcommand_from why who cut check' -s q -l quiet -d 'Print no notes beside the answer'
 complete -c incut -n '__fish_seen_subcommand_from cut' -l blank -d 'Print the files with the cut blanked'
 complete -c incut -n '__fish_seen_subcommand_from cut' -l patch -d 'Print a diff that removes the cut'
-complete -c incut -n '__fish_seen_subcommand_from why who cut' -l format -x -a 'text gcc' -d 'Format of the answer'
+complete -c incut -n '__fish_seen_subcommand_from why who cut' -l format -x -a 'text gcc json' -d 'Format of the answer'
 complete -c incut -n '__fish_seen_subcommand_from why cut' -l all -d 'Show each chain whole'
 complete -c incut -n '__fish_seen_subcommand_from pp' -s D -x -d 'Define a macro'
 complete -c incut -n '__fish_seen_subcommand_from pp' -l defines -r -d 'Take definitions from a file'

@@ -23,7 +23,7 @@ pub(crate) const HEADER_HELP: &str =
     "Header to look for, by its path, its name in an include, or the end of its path";
 
 pub(crate) const FORMAT_HELP: &str =
-    "Print the answer as `text`, for scripts, or as `gcc`, each directive at its file and line [default: gcc on a terminal, else text]";
+    "Print the answer as `text`, for scripts, as `gcc`, each directive at its file and line, or as `json` [default: gcc on a terminal, else text]";
 
 pub(crate) const ALL_HELP: &str = "With the format gcc, show every chain in full";
 

@@ -1,5 +1,5 @@
 -- What a run of the program comes to: the command line, what is read and written, and the exit status.
-use Rattle.std.specs.Prelude.{◌≡◌, ◌≢◌, ℕ, Bool, List, [], Result, Ok, Err, true, false, if◌then◌else◌, bytes_eq, codes, is_some, unwrap_or}
+use Rattle.std.specs.Prelude.{◌≡◌, ◌≢◌, ℕ, Bool, List, [], Option, Some, None, Result, Ok, Err, true, false, if◌then◌else◌, bytes_eq, codes, is_some, unwrap_or}
 use Rattle.std.specs.Io.KnownBytes.{Appends, Keeps}
 use Rattle.clap.specs.Words.{IsAmong, kind_of}
 use Rattle.inc_text.specs.Devices.{AppendsFront}
@@ -10,6 +10,8 @@ use Rattle.inc_args.specs.Refusals.{refusals}
 use Rattle.inc_inputs.specs.Inputs.{Begins, Gives, Puts}
 use Rattle.inc_report.specs.declared.named.Asked.{Asked}
 use Rattle.inc_report.specs.declared.named.Asked.TheVariants as asked
+use Rattle.inc_report.specs.declared.named.Format.{Format}
+use Rattle.inc_report.specs.declared.named.Format.TheVariants.{Gcc, Json}
 use Rattle.inc_cli.specs.Languages.{language_of}
 use Rattle.inc_cli.specs.Notes.{notes_if}
 use Rattle.inc_cli.specs.Outputs.{Answer, Follows, IsRun, Output}
@@ -31,10 +33,19 @@ abbrev pub IsAsked : {S T : Type 0} → Gives S → Opens S T → Language → C
 IsAsked gives o language command q l =
     IsRun (asked_of gives language (has_headers command) q l (certificate_of command)) (IsAnswered gives (IsPrinted gives o command) command q)
 
+-- the format with this name in which directives stand as they are written
+abbrev pub format_named : (name : List ℕ) → Option Format
+format_named name = if bytes_eq name (codes "gcc") then Some Gcc else if bytes_eq name (codes "json") then Some Json else None
+
+-- the command that answers in this format, if it is one
+abbrev pub named_in : Option Format → (all : Bool) → Asked → Result Command Report
+named_in None all asked = Err no_format
+named_in (Some format) all asked = Ok (Named (record { asked = asked; format = format; all = all }))
+
 -- the command whose answer is printed in a format: the text of old, or with directives as they are written
 abbrev pub in_format : (name : List ℕ) → (all : Bool) → (text : Command) → Asked → Result Command Report
 in_format name all text asked =
-    if bytes_eq name (codes "text") then Ok text else if bytes_eq name (codes "gcc") then Ok (Named asked all) else Err no_format
+    if bytes_eq name (codes "text") then Ok text else named_in (format_named name) all asked
 
 -- where none is named, on a terminal with directives as they are written
 abbrev pub default_format : (is_terminal : Bool) → List ℕ

@@ -17,7 +17,7 @@ use Rattle.inc_report.specs.Questions.{FailsAt}
 use Rattle.inc_report.specs.WhoText.{IsWhoBy}
 use Rattle.inc_report.specs.WhyText.{IsWhyBy}
 use Rattle.inc_report.specs.Writing.{Writes, is_of_certificate, unread_of}
-use Rattle.inc_report.specs.declared.named.Asked.{Asked as Subject}
+use Rattle.inc_report.specs.declared.named.NamedForm.{NamedForm}
 use Rattle.inc_report.specs.declared.outcome.End.{End}
 use Rattle.inc_report.specs.declared.outcome.RunFault.{RunFault}
 use Rattle.inc_args.specs.Meaning.{Question}
@@ -40,8 +40,8 @@ pub data Command : Type 0 where
   Blank : Command
   -- for the diff that removes its directives
   Patch : Command
-  -- why, or which directives to remove, with directives as they are written, and with each chain whole or without
-  Named : (asked : Subject) → (all : Bool) → Command
+  -- why, or which directives to remove, with directives as they are written
+  Named : NamedForm → Command
   -- of the certificate that this word names
   Check : (name : List ℕ) → Command
 
@@ -76,7 +76,7 @@ IsPrinted gives o Graph a old new p = OfFiles gives a old new (IsGraphBy a.quest
 IsPrinted gives o Cut a old new p = OfFiles gives a old new (IsCutBy a.question a.limits p)
 IsPrinted gives o Blank a old new p = OfFiles gives a old new (IsBlankBy a.question a.limits p)
 IsPrinted gives o Patch a old new p = OfFiles gives a old new (IsPatchBy a.question a.limits p)
-IsPrinted gives o (Named asked all) a old new p = OfFiles gives a old new (IsNamedBy asked all a.question a.limits p)
+IsPrinted gives o (Named form) a old new p = OfFiles gives a old new (IsNamedBy form a.question a.limits p)
 IsPrinted gives o (Check name) a old new p =
     OfCertificate o old name (λ text. OfFiles gives a old new (IsCheckBy a.question a.limits text p))
 
@@ -89,8 +89,7 @@ IsPromised gives o Graph a old new p = Unit {0}
 IsPromised gives o Cut a old new p = OfFiles gives a old new (λ given listing. CutHeadline a.question a.limits p listing)
 IsPromised gives o Blank a old new p = OfFiles gives a old new (λ given listing. BlankHeadline a.question a.limits p listing)
 IsPromised gives o Patch a old new p = OfFiles gives a old new (λ given listing. PatchHeadline a.question a.limits p listing)
-IsPromised gives o (Named asked all) a old new p =
-    OfFiles gives a old new (λ given listing. NamedHeadline asked all a.question a.limits p listing)
+IsPromised gives o (Named form) a old new p = OfFiles gives a old new (λ given listing. NamedHeadline form a.question a.limits p listing)
 IsPromised gives o (Check name) a old new p =
     OfCertificate o old name (λ text. OfFiles gives a old new (λ given listing. CheckHeadline a.question a.limits text p listing))
 

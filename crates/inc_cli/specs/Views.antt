@@ -29,7 +29,7 @@ seen_command command.Graph = questions.Graph
 seen_command command.Cut = questions.Cut
 seen_command command.Blank = questions.Blank
 seen_command command.Patch = questions.Patch
-seen_command (command.Named asked all) = questions.Named asked all
+seen_command (command.Named form) = questions.Named form
 seen_command (command.Check name) = questions.Check name.now
 
 -- what is asked of files with these paths

@@ -26,7 +26,7 @@ use inc_inputs::{
 };
 use inc_lookup::{NamedDir, Project};
 use inc_report::{
-    Asked, End, Limits, NamedForm, Question, RunFault, run_blank, run_check, run_cut, run_graph,
+    End, Limits, NamedForm, Question, RunFault, run_blank, run_check, run_cut, run_graph,
     run_named, run_patch, run_who, run_why,
 };
 use inc_text::ByteSink;
@@ -47,9 +47,8 @@ pub(crate) enum Command<'a> {
     Blank,
     /// For the diff that removes its directives.
     Patch,
-    /// Why the sources include the headers, or which directives to remove, with directives as they are written, and with each chain whole or
-    /// without.
-    Named(Asked, bool),
+    /// Why the sources include the headers, or which directives to remove, with directives as they are written.
+    Named(NamedForm),
     /// Whether the certificate that this word names shows a smallest cut.
     Check(&'a str),
 }
@@ -326,8 +325,7 @@ fn answer<I: Inputs, O: ByteSink>(
             let (ended, _, out) = run_patch(alloc, project, files, question, limits, out);
             (ended, out)
         }
-        Command::Named(asked, all) => {
-            let form = NamedForm { asked, all };
+        Command::Named(form) => {
             let (ended, _, out) = run_named(alloc, project, files, question, limits, form, out);
             (ended, out)
         }

@@ -5,7 +5,7 @@ ghost use Rattle.inc_args.specs.CompilerWords.{as_options};
 ghost use Rattle.inc_args.specs.Meaning.{meaning};
 ghost use Rattle.inc_args.specs.Views.{seen_arguments, seen_format, seen_forms, seen_languages, seen_question, seen_request};
 ghost use Rattle.inc_cli.specs.Languages.{language_of};
-ghost use Rattle.inc_cli.specs.Processes.{default_format, form_of, formatted, of_files, who_of, IsAnswer, IsAnswerFrom, IsAnswerTo, IsPromise, IsPromiseFrom, IsPromiseOf, IsRefusedRun, IsTold, IsToldRun};
+ghost use Rattle.inc_cli.specs.Processes.{default_format, form_of, format_named, formatted, of_files, who_of, IsAnswer, IsAnswerFrom, IsAnswerTo, IsPromise, IsPromiseFrom, IsPromiseOf, IsRefusedRun, IsTold, IsToldRun};
 ghost use Rattle.inc_inputs.specs.Reports.{out_of_memory};
 ghost use Rattle.inc_cli.specs.Views.{output_of, seen_command, seen_end};
 ghost use Rattle.inc_inputs.specs.Views.{seen};
@@ -22,7 +22,7 @@ use inc_args::{
     as_options, read_args,
 };
 use inc_inputs::{Failure, Hindrance, Inputs, are_ends};
-use inc_report::Asked;
+use inc_report::{Asked, Format, NamedForm};
 use inc_text::{ByteSink, Language};
 use std::alloc::Global;
 use std::cell::Cell;
@@ -307,10 +307,27 @@ fn formatted(
     if name == "text" {
         return Ok(text);
     }
-    if name == "gcc" {
-        return Ok(Command::Named(asked, format.all));
+    match format_named(name) {
+        Some(named) => Ok(Command::Named(NamedForm {
+            asked,
+            format: named,
+            all: format.all,
+        })),
+        None => Err(Failure::NoFormat),
     }
-    Err(Failure::NoFormat)
+}
+
+/// The format with this name in which directives stand as they are written.
+fn format_named(name: &str) -> Option<Format>
+    ensures { result ≡ format_named name.now }
+{
+    if name == "gcc" {
+        return Some(Format::Gcc);
+    }
+    if name == "json" {
+        return Some(Format::Json);
+    }
+    None
 }
 
 /// The name of the format where none is given.

@@ -77,7 +77,7 @@ abbrev pub format_of_files : Report
 format_of_files = record { message = codes "--format excludes --blank and --patch"; status = 2 }
 
 abbrev pub no_format : Report
-no_format = record { message = codes "--format is text or gcc"; status = 2 }
+no_format = record { message = codes "--format is text, gcc or json"; status = 2 }
 
 abbrev pub two_languages : Report
 two_languages = record { message = codes "--extended and --gnu exclude each other"; status = 2 }

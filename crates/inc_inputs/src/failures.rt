@@ -329,7 +329,7 @@ impl Failure {
             Failure::OneFile => (b"--deps and --status name one file", b""),
             Failure::TwoForms => (b"--blank and --patch exclude each other", b""),
             Failure::FormatOfFiles => (b"--format excludes --blank and --patch", b""),
-            Failure::NoFormat => (b"--format is text or gcc", b""),
+            Failure::NoFormat => (b"--format is text, gcc or json", b""),
             Failure::TwoLanguages => (b"--extended and --gnu exclude each other", b""),
             Failure::TwoLists => (b"--files and --root exclude each other", b""),
             Failure::NoEnds => (b"name SOURCE and HEADER, or give --from and --to", b""),

@@ -39,3 +39,8 @@ pub mod UnresolvedTexts
 pub mod KeptDirectives
 pub mod NamedLemmas
 pub mod ChainBlocks
+pub mod JoinedTexts
+pub mod JsonExamples
+pub mod JsonSteps
+pub mod JsonKept
+pub mod JsonNames

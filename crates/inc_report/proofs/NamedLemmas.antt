@@ -1,67 +1,272 @@
 -- What is printed in which directives stand as they are written, by what was read and kept, and what that promises.
 use Rattle.std.proofs.Common.{◌≡◌, ◌≢◌, ℕ, ◌<◌, Bool, true, false, ◌==◌, List, [], ◌∷◌, ◌++◌, Option, Some, None, Result, Ok, length, get_or, is_some, inl, inr, refl, sym, ap, subst, ◌∙◌, arith}
-use Rattle.std.specs.Prelude.{replicate, IsTrue}
+use Rattle.std.specs.Prelude.{map, option_and_then, replicate, IsTrue}
 use Rattle.std.specs.List.{All, list_any}
 use Rattle.std.proofs.lemmas.Bool.{eqb-false, or_parts}
 use Rattle.std.proofs.lemmas.List.{get_or_default, length-replicate}
 use Rattle.std.proofs.lemmas.List.Elements.{All-head, All-tail, All-cons, All-nil}
 use Rattle.inc_text.specs.declared.devices.ReadFault.{ReadFault}
 use Rattle.inc_text.specs.declared.languages.Language.{Language}
+use Rattle.inc_directive.specs.LineKinds.{LineKind}
 use Rattle.inc_lookup.specs.declared.projects.DirectiveId.{DirectiveId}
 use Rattle.inc_lookup.specs.Given.{Given, Agrees, HoldsOfGiven}
 use Rattle.inc_lookup.specs.Projects.{Layout, Listing, layout_of, bytes_at}
 use Rattle.inc_lookup.proofs.GivenLemmas.{given_all, laid_count, laid_with, with_bytes, agrees_more}
 use Rattle.inc_graph.specs.Cuts.{fixed_by, directives_of}
 use Rattle.inc_graph.specs.IncludeGraph.{Graph, IsGraphAnswer}
-use Rattle.inc_graph.specs.MarkedEdges.{amounts_by}
+use Rattle.inc_graph.specs.MarkedEdges.{amounts_by, marks_fault}
 use Rattle.inc_graph.specs.MissingLists.{Missing}
+use Rattle.inc_graph.specs.declared.fixing.FixedFault.{FixedFault}
 use Rattle.inc_graph.specs.declared.graphs.Blocker.{Blocker}
 use Rattle.inc_report.specs.CutDocument.{has_costs}
-use Rattle.inc_report.specs.CutText.{marks_refusal}
-use Rattle.inc_report.specs.DirectiveNames.{kept_name, name_at, name_of}
+use Rattle.inc_report.specs.CutText.{Unhindered, blocked, marks_refusal, refusal_of_fault}
+use Rattle.inc_report.specs.BlockedReasons.{blocked_reasons}
+use Rattle.inc_report.specs.DirectiveNames.{kept_kind, kept_name, kind_at, kind_of, name_of, written}
 use Rattle.inc_report.specs.Documents.{AreGraphKept, AreKept, Block, IsKept, Led, Place, Words, block_text, document_text}
+use Rattle.inc_report.specs.JsonAnswers.{About, about_subject, kept_about}
+use Rattle.inc_report.specs.JsonRefusals.{mark_items, refusal_json, refusal_object}
 use Rattle.inc_report.specs.KeptFiles.{Fits, Kept, OfKept, keeps, kept_at}
 use Rattle.inc_report.specs.Known.{IsKnown}
 use Rattle.inc_report.specs.NamedHeadline.{HasGraph, NamedCutHeadline, NamedHeadline, NamedIsFixed, NamedKeepsHeadersOut}
-use Rattle.inc_report.specs.NamedText.{IsNamedCutOf, IsNamedOf, named_text}
-use Rattle.inc_report.specs.Printed.{Printed, answered}
+use Rattle.inc_report.specs.NamedText.{IsHinderedKept, IsInAnyFormat, IsInFormat, IsNamedAs, IsNamedBy, IsNamedKept, IsNamedOf, IsObject, IsReport, IsReportOf, about, answer_document, answer_json, answer_lines, answer_text, command_name, printed_answer}
+use Rattle.inc_report.specs.Printed.{Printed, answered, end_of, refused_for}
 use Rattle.inc_report.specs.Questions.{Answer, IsAnswerBy}
+use Rattle.inc_report.specs.Refusals.{Blocked, Refusal, refusal, refusal_for}
 use Rattle.inc_report.specs.Terms.{Question, Limits, named_directives, setting_in}
+use Rattle.inc_report.specs.Told as report
+use Rattle.inc_report.specs.Told.{Chains, FixedChain, IsAnswerOf, Removed, Sources, end_kind, notes_of}
+use Rattle.inc_report.specs.Views.{seen_refusal}
 use Rattle.inc_report.specs.declared.kept_sources.KeptSources.{KeptSources}
 use Rattle.inc_report.specs.declared.named.Asked.{Asked}
-use Rattle.inc_report.specs.declared.named.Asked.TheVariants as asked
+use Rattle.inc_report.specs.declared.named.Asked.TheVariants as ask
+use Rattle.inc_report.specs.declared.named.Format.{Format}
+use Rattle.inc_report.specs.declared.named.Format.TheVariants.{Gcc, Json}
+use Rattle.inc_report.specs.declared.named.NamedForm.{NamedForm}
 use Rattle.inc_report.specs.declared.outcome.End.{End}
-use Rattle.inc_report.specs.declared.outcome.EndKind.TheVariants.{Answered, Negative}
-use Rattle.inc_report.proofs.BlankLemmas.{all_kept, of_kept, of_no_graph}
-use Rattle.inc_report.proofs.HeadlineLemmas.{IsTold, told_of, stated_yes, stated_no, unhindered_told, ends_apart, answered_negative}
-use Rattle.inc_report.proofs.KeptLemmas.{kept_given}
+use Rattle.inc_report.specs.declared.outcome.EndKind.{EndKind}
+use Rattle.inc_report.specs.declared.outcome.EndKind.TheVariants.{Answered, Negative, Refused}
+use Rattle.inc_report.specs.declared.refusals.Refusal as declared
+use Rattle.inc_report.specs.declared.refusals.Refusal.TheVariants as refused
+use Rattle.inc_report.specs.declared.subjects.Subject.{Subject}
+use Rattle.inc_report.proofs.BlankLemmas.{all_kept}
+use Rattle.inc_report.proofs.CutLemmas.{unhindered}
+use Rattle.inc_report.proofs.HeadlineLemmas.{IsTold, told_of, stated_yes, stated_no, unhindered_all, unhindered_told, ends_apart, answered_negative}
+use Rattle.inc_report.proofs.JsonKept.{AreSame, cut_same, fixed_same, items_same, who_same, why_same}
+use Rattle.inc_report.proofs.KeptDirectives.{cut_kept, fixed_kept, who_kept, why_kept}
+use Rattle.inc_report.proofs.KeptLemmas.{fits_given, fits_unread, holds_inner, kept_given}
 use Rattle.inc_report.proofs.KeptOut.{answered_cut_keeps_headers_out, of_names_once}
-use Rattle.inc_report.proofs.KnownParts.{OfKnown}
+use Rattle.inc_report.proofs.QuestionLemmas.{answer_all}
 use Rattle.inc_report.proofs.UnresolvedTexts.{blocker_in_text, missing_in_text}
 
 -- a text, and how the call ends
 abbrev pub printed_as : (text : List ℕ) → End → Printed
 printed_as text end = record { text = text; end = end }
 
----- the text by the files of a listing
+---- directives by the files of a listing
 
 module _ (language : Language) (kept : Kept) (layout : Layout) (listing : Listing) (fits : Fits kept listing) where
-  name_there : (d : DirectiveId) (o : Option (List ℕ)) → kept_at kept d.file ≡ o → IsTrue (is_some o) → kept_name language kept d ≡ name_of language listing d
-  name_there d None is there = cc
-  name_there d (Some bytes) is there =
+  kind_there : (d : DirectiveId) (o : Option (List ℕ)) → kept_at kept d.file ≡ o → IsTrue (is_some o) → kept_kind language kept d ≡ kind_of language listing d
+  kind_there d None is there = cc
+  kind_there d (Some bytes) is there =
       let same : bytes_at listing d.file ≡ bytes = fits d.file bytes is in
-      rw is (ap (λ (bs : List ℕ). name_at language bs d.line) (sym same))
+      rw is (ap (λ (bs : List ℕ). kind_at language bs d.line) (sym same))
+
+  kind_same : (d : DirectiveId) → IsTrue (is_some (kept_at kept d.file)) → kept_kind language kept d ≡ kind_of language listing d
+  kind_same d there = kind_there d (kept_at kept d.file) refl there
+
+  name_same : (d : DirectiveId) → IsTrue (is_some (kept_at kept d.file)) → kept_name language kept d ≡ name_of language listing d
+  name_same d there = ap written (kind_same d there)
 
   block_same : (b : Block) → IsKept kept b → block_text (kept_name language kept) layout b ≡ block_text (name_of language listing) layout b
   block_same (Words text) there = refl
-  block_same (Place d) there = ap (λ (name : List ℕ). block_text (λ x. name) layout (Place d)) (name_there d (kept_at kept d.file) refl there)
-  block_same (Led text d) there = ap (λ (name : List ℕ). block_text (λ x. name) layout (Led text d)) (name_there d (kept_at kept d.file) refl there)
+  block_same (Place d) there = ap (λ (name : List ℕ). block_text (λ x. name) layout (Place d)) (name_same d there)
+  block_same (Led text d) there = ap (λ (name : List ℕ). block_text (λ x. name) layout (Led text d)) (name_same d there)
 
-  pub text_same : (bs : List Block) → AreKept kept bs → document_text (kept_name language kept) layout bs ≡ named_text language listing layout bs
+  text_same : (bs : List Block) → AreKept kept bs → document_text (kept_name language kept) layout bs ≡ document_text (name_of language listing) layout bs
   text_same [] there = refl
   text_same (b ∷ bs) there =
       ap (λ (t : List ℕ). t ++ document_text (kept_name language kept) layout bs) (block_same b (All-head (IsKept kept) b bs there))
       ∙ ap (λ (t : List ℕ). block_text (name_of language listing) layout b ++ t) (text_same bs (All-tail (IsKept kept) b bs there))
+
+  module _ (g : Graph) (held : AreGraphKept g kept) where
+    all_same : AreSame layout g (kept_kind language kept) (kind_of language listing)
+    all_same = record {
+      edges = λ i e low. kind_same (record { file = (get_or g.edges i e).from; line = (get_or g.edges i e).line }) (held.edges i e low);
+      missing = λ i m low. kind_same (record { file = (get_or g.missing i m).file; line = (get_or g.missing i m).line }) (held.missing i m low);
+      blockers = λ i b low. kind_same (record { file = (get_or g.blockers i b).file; line = (get_or g.blockers i b).line }) (held.blockers i b low);
+    }
+
+    -- the directives of which nothing can be said are the same items
+    pub blocked_same : (command : List ℕ) → refusal_json command (kept_kind language kept) (Blocked layout g.blockers) ≡ refusal_json command (kind_of language listing) (Blocked layout g.blockers)
+    blocked_same command =
+        ap (λ (items : List (List ℕ)). refusal_object command (Blocked layout g.blockers) items)
+        (items_same layout g (kept_kind language kept) (kind_of language listing) g.blockers all_same.blockers)
+
+    document_kept : (all costed : Bool) (answer : report.Answer) → AreKept kept (answer_document all costed layout g answer)
+    document_kept all costed (Chains shortest chains) = why_kept kept g held all layout shortest chains
+    document_kept all costed (Sources reaching chains) = who_kept kept g held all layout reaching chains
+    document_kept all costed (Removed set chains) = cut_kept kept g held all costed layout set chains
+    document_kept all costed (FixedChain chain) = fixed_kept kept g held layout chain
+
+    object_same : (all : Bool) (answer : report.Answer) → answer_json all (kept_about language kept layout g) answer ≡ answer_json all (about language listing layout g) answer
+    object_same all (Chains shortest chains) = why_same layout g (kept_kind language kept) (kind_of language listing) all_same shortest chains
+    object_same all (Sources reaching chains) = who_same layout g (kept_kind language kept) (kind_of language listing) all_same all reaching chains
+    object_same all (Removed set chains) = cut_same layout g (kept_kind language kept) (kind_of language listing) all_same set chains
+    object_same all (FixedChain chain) = fixed_same layout g (kept_kind language kept) (kind_of language listing) all_same chain
+
+    answer_same : (form : NamedForm) (costed : Bool) (answer : report.Answer) → answer_text form costed (kept_about language kept layout g) answer ≡ answer_text form costed (about language listing layout g) answer
+    answer_same form costed answer = by form.format
+      where
+        by : (f : Format) → answer_text (record form { format = f }) costed (kept_about language kept layout g) answer ≡ answer_text (record form { format = f }) costed (about language listing layout g) answer
+        by Gcc = text_same (answer_document form.all costed layout g answer) (document_kept form.all costed answer)
+        by Json = object_same form.all answer
+
+    -- what is printed by what is kept is printed of the listing
+    pub report_same : (asked : Asked) (form : NamedForm) (costed : Bool) (amounts : List ℕ) (p : Printed) → IsReport asked form costed (kept_about language kept layout g) amounts p
+        → IsReportOf asked form costed language listing layout g amounts p
+    report_same asked form costed amounts p r =
+        (r.0, r.1, r.2 ∙ ap (λ (text : List ℕ). printed_as text (end_of (notes_of layout g r.0) (end_kind r.0))) (answer_same form costed r.0))
+
+---- formats
+
+gcc_format : (form : NamedForm) (kind : DirectiveId → LineKind) (p : Printed) → form.format ≡ Gcc → IsInFormat form kind p p
+gcc_format form kind p is = by form.format is
+  where
+    by : (f : Format) → f ≡ Gcc → IsInFormat (record form { format = f }) kind p p
+    by Gcc same = refl
+    by Json same = cc
+
+pub json_format : (form : NamedForm) (kind : DirectiveId → LineKind) (plain p : Printed) → form.format ≡ Json → IsObject form.asked kind plain p → IsInFormat form kind plain p
+json_format form kind plain p is object = by form.format is
+  where
+    by : (f : Format) → f ≡ Json → IsInFormat (record form { format = f }) kind plain p
+    by Gcc same = cc
+    by Json same = object
+
+-- an answer stays
+answer_format : (form : NamedForm) (kind : DirectiveId → LineKind) (p : Printed) → p.end.kind ≢ Refused → IsInFormat form kind p p
+answer_format form kind p stated = by form.format
+  where
+    by : (f : Format) → IsInFormat (record form { format = f }) kind p p
+    by Gcc = refl
+    by Json = inr (stated, refl)
+
+-- what is no refusal is what would be printed as text
+plain_format : (form : NamedForm) (kind : DirectiveId → LineKind) (plain p : Printed) → p.end.kind ≢ Refused → IsInFormat form kind plain p → p ≡ plain
+plain_format form kind plain p stated is = by form.format is
+  where
+    by : (f : Format) → IsInFormat (record form { format = f }) kind plain p → p ≡ plain
+    by Gcc same = same
+    by Json object = elim object [ inl r ↦ absurd (stated (ap (λ (q : Printed). q.end.kind) r.3)) | inr same ↦ same.1 ]
+
+-- the object of a refusal that names directives by marks
+pub object_of_marks : (command : List ℕ) (kind : DirectiveId → LineKind) (r : declared.Refusal) → refusal_object command (seen_refusal r) (mark_items (seen_refusal r)) ≡ refusal_json command kind (seen_refusal r)
+object_of_marks command kind refused.NoSuchSource = refl
+object_of_marks command kind refused.NoSuchHeader = refl
+object_of_marks command kind (refused.BadFile path line) = refl
+object_of_marks command kind refused.TooManyDirectives = refl
+object_of_marks command kind (refused.NoSuchDirective path line) = refl
+object_of_marks command kind (refused.Malformed line) = refl
+object_of_marks command kind (refused.BadDefinition index fault) = refl
+object_of_marks command kind refused.TooLong = refl
+object_of_marks command kind (refused.NoSuchCost path line) = refl
+object_of_marks command kind (refused.CostTwice path line) = refl
+
+-- it is printed where the refusal would be as text
+pub object_of_refusal : (asked : Asked) (kind : DirectiveId → LineKind) (reason : List ℕ) (r : declared.Refusal) (p : Printed)
+    → p ≡ refused_for reason (refusal_object (command_name asked) (seen_refusal r) (mark_items (seen_refusal r))) → IsObject asked kind (refusal_for reason (seen_refusal r)) p
+object_of_refusal asked kind reason r p is = inl (reason, seen_refusal r, refl, is ∙ ap (refused_for reason) (object_of_marks (command_name asked) kind r))
+
+---- the answer of a graph
+
+module _ (form : NamedForm) (l : Limits) (s : Subject) (held : AreGraphKept s.graph.now s.files.now) (p : Printed) where
+  abbrev own : Layout
+  own = s.project.now
+
+  stated : (answer : report.Answer) → p.end.kind ≡ end_kind answer → p.end.kind ≢ Refused
+  stated (Chains shortest chains) is same = cc
+  stated (Sources reaching chains) is same = cc
+  stated (Removed set chains) is same = cc
+  stated (FixedChain chain) is same = cc
+
+  abbrev Then : Asked → Listing → Type 0
+  Then asked listing = IsNamedAs asked form l s.language listing own s.graph.now p
+
+  kept_as : (asked : Asked) (costed : Bool) (amounts : List ℕ) → form.asked ≡ asked → IsReport asked form costed (about_subject s) amounts p
+      → ((listing : Listing) → IsReportOf asked form costed s.language listing own s.graph.now amounts p → Then asked listing) → IsNamedKept form l s p
+  kept_as asked costed amounts is r step = (
+    p,
+    λ listing laid fits. (
+      subst (λ (a : Asked). Then a listing) (sym is) (step listing (report_same s.language s.files.now own listing fits s.graph.now held asked form costed amounts p r)),
+      answer_format form (kind_of s.language listing) p (stated r.0 (ap (λ (q : Printed). q.end.kind) r.2)),
+    ),
+  )
+
+  pub why_report : form.asked ≡ ask.Why → IsReport ask.Why form false (about_subject s) [] p → IsNamedKept form l s p
+  why_report is r = kept_as ask.Why false [] is r (λ listing h. h)
+
+  pub who_report : form.asked ≡ ask.Who → IsReport ask.Who form false (about_subject s) [] p → IsNamedKept form l s p
+  who_report is r = kept_as ask.Who false [] is r (λ listing h. h)
+
+  pub cut_report : (costed : Bool) (amounts : List ℕ) → form.asked ≡ ask.Cut → costed ≡ has_costs l.costs → s.graph.now.blockers ≡ [] → marks_fault own s.graph.now l.fixed l.costs ≡ None
+      → amounts ≡ amounts_by own s.graph.now l.kept l.fixed l.costs → IsReport ask.Cut form costed (about_subject s) amounts p → IsNamedKept form l s p
+  cut_report costed amounts is same none named fixed r =
+      kept_as ask.Cut costed amounts is r
+      (λ listing h. unhindered (IsReportOf ask.Cut form (has_costs l.costs) s.language listing) own s.graph.now l amounts p none named fixed
+      (subst (λ (b : Bool). IsReportOf ask.Cut form b s.language listing own s.graph.now amounts p) same h))
+
+  -- what hinders it
+  abbrev Hindered : Printed → Type 0
+  Hindered q = Unhindered own s.graph.now.blockers (marks_refusal own s.graph.now l.fixed l.costs) (λ r. ⊥) q
+
+  hindered_as : (listing : Listing) (plain : Printed) → form.asked ≡ ask.Cut → Hindered plain → IsNamedOf form l s.language listing own s.graph.now plain
+  hindered_as listing plain is h =
+      subst (λ (a : Asked). IsNamedAs a form l s.language listing own s.graph.now plain) (sym is)
+      (unhindered_all own s.graph.now.blockers (marks_refusal own s.graph.now l.fixed l.costs) (λ r. ⊥)
+      (IsReportOf ask.Cut form (has_costs l.costs) s.language listing own s.graph.now (amounts_by own s.graph.now l.kept l.fixed l.costs)) plain (λ none. absurd none) h)
+
+  pub hindered_text : form.asked ≡ ask.Cut → form.format ≡ Gcc → Hindered p → IsNamedKept form l s p
+  hindered_text is format h = (p, λ listing laid fits. (hindered_as listing p is h, gcc_format form (kind_of s.language listing) p format))
+
+  pub hindered_object : form.asked ≡ ask.Cut → form.format ≡ Json → IsHinderedKept l s p → IsNamedKept form l s p
+  hindered_object is format h = (
+    h.0,
+    λ listing laid fits. (
+      hindered_as listing h.0 is h.1,
+      json_format form (kind_of s.language listing) h.0 p format (subst (λ (a : Asked). IsObject a (kind_of s.language listing) h.0 p) (sym is) (h.2 listing laid fits)),
+    ),
+  )
+
+  ---- the object of what hinders it
+
+  by_blockers : (bs : List Blocker) (fault : Option Refusal) → bs ≢ [] → Unhindered own bs fault (λ r. ⊥) (blocked own bs)
+  by_blockers [] fault some = absurd (some refl)
+  by_blockers (b ∷ bs) fault some = refl
+
+  pub blocked_object : s.graph.now.blockers ≢ [] → p ≡ refused_for (blocked_reasons own s.graph.now.blockers) (refusal_json (command_name ask.Cut) (kept_kind s.language s.files.now) (Blocked own s.graph.now.blockers))
+      → IsHinderedKept l s p
+  blocked_object some is = (
+    blocked own s.graph.now.blockers,
+    by_blockers s.graph.now.blockers (marks_refusal own s.graph.now l.fixed l.costs) some,
+    λ listing laid fits. inl (
+      blocked_reasons own s.graph.now.blockers,
+      Blocked own s.graph.now.blockers,
+      refl,
+      is ∙ ap (refused_for (blocked_reasons own s.graph.now.blockers)) (blocked_same s.language s.files.now own listing fits s.graph.now held (command_name ask.Cut)),
+    ),
+  )
+
+  by_marks : (bs : List Blocker) (fault : Option Refusal) (r : Refusal) → bs ≡ [] → fault ≡ Some r → Unhindered own bs fault (λ q. ⊥) (refusal r)
+  by_marks bs fault r none is = rw (none, is) refl
+
+  pub marked_object : (fault : FixedFault) (r : declared.Refusal) → s.graph.now.blockers ≡ [] → marks_fault own s.graph.now l.fixed l.costs ≡ Some fault
+      → Some (seen_refusal r) ≡ refusal_of_fault l.fixed l.costs fault
+      → p ≡ refused_for [] (refusal_object (command_name ask.Cut) (seen_refusal r) (mark_items (seen_refusal r))) → IsHinderedKept l s p
+  marked_object fault r none named seen is = (
+    refusal (seen_refusal r),
+    by_marks s.graph.now.blockers (marks_refusal own s.graph.now l.fixed l.costs) (seen_refusal r) none (ap (option_and_then (refusal_of_fault l.fixed l.costs)) named ∙ sym seen),
+    λ listing laid fits. object_of_refusal ask.Cut (kind_of s.language listing) [] r p is,
+  )
 
 ---- the files of a graph
 
@@ -113,71 +318,108 @@ module _ {S : Type 0} (gives : S → ℕ → Result (List ℕ) ReadFault → S �
         (subst (λ (x : ℕ). b.file < x) known.files (known.sound.blockers_within k d low)) refl);
   }
 
+---- what is printed of a question
+
+module _ {S : Type 0} (gives : S → ℕ → Result (List ℕ) ReadFault → S → Type 0) (old new : KeptSources S) (layout : Layout) (form : NamedForm) (q : Question) (l : Limits) (p : Printed) where
+  pub named_given : (plain : Printed) (graph : Graph) (n : ℕ) → old.files ≡ replicate n None
+      → OfKept new.files layout (λ listing. IsNamedOf form l q.language listing layout graph plain × IsInFormat form (kind_of q.language listing) plain p)
+      → HoldsOfGiven (keeps gives) old new layout (IsAnswerBy (λ k g r. g ≡ graph) q plain)
+      → HoldsOfGiven gives old.sources new.sources layout (IsNamedBy form q l p)
+  named_given plain graph n none told holds =
+      holds_inner gives old new layout (IsAnswerBy (λ k g r. g ≡ graph) q plain) (IsNamedBy form q l p) holds
+      (λ given listing gave laid agrees is.
+      (let fits : Fits new.files listing = fits_given gives old new given listing gave agrees (fits_unread old.files n listing none) in
+      let here = told listing laid fits in (
+        plain,
+        (
+          answer_all (λ k g r. g ≡ graph) (IsNamedOf form l q.language listing) q listing plain
+              (λ g same. subst (λ (k : Layout). IsNamedOf form l q.language listing k g plain) (sym laid) (subst (λ (h : Graph). IsNamedOf form l q.language listing layout h plain) (sym same) here.0)) is.0,
+          is.1,
+        ),
+        here.1,
+      )))
+
+  pub named_refused : (plain : Printed) → IsInAnyFormat form plain p → HoldsOfGiven (keeps gives) old new layout (IsAnswerBy (λ k g r. ⊥) q plain)
+      → HoldsOfGiven gives old.sources new.sources layout (IsNamedBy form q l p)
+  named_refused plain format holds =
+      holds_inner gives old new layout (IsAnswerBy (λ k g r. ⊥) q plain) (IsNamedBy form q l p) holds
+      (λ given listing gave laid agrees is. (
+        plain,
+        (answer_all (λ k g r. ⊥) (IsNamedOf form l q.language listing) q listing plain (λ g none. absurd none) is.0, is.1),
+        format (kind_of q.language listing),
+      ))
+
 ---- what it promises
 
-module _ (subject : Asked) (all : Bool) (q : Question) (l : Limits) (p : Printed) (given : List Given) (listing : Listing) where
+module _ (form : NamedForm) (q : Question) (l : Limits) (p : Printed) (given : List Given) (listing : Listing) where
   abbrev layout : Layout
   layout = layout_of listing
 
-  abbrev pub OfNamed : Asked → Answer
-  OfNamed a = OfKnown (IsNamedOf a all l q.language listing)
+  abbrev as_cut : NamedForm
+  as_cut = record form { asked = ask.Cut }
 
-  abbrev graph_told : (t : IsTold (OfNamed asked.Cut) q listing p) → HasGraph q listing
+  abbrev AsCut : Answer
+  AsCut = IsNamedAs ask.Cut as_cut l q.language listing
+
+  abbrev graph_told : {plain : Printed} → (t : IsTold AsCut q listing plain) → HasGraph q listing
   graph_told t = record { sources = t.sources; headers = t.headers; sources_are = t.sources_are; headers_are = t.headers_are; graph = t.graph; graph_is = t.graph_is }
 
-  told_cut : (end : p.end.kind ≡ Answered) (t : IsTold (OfNamed asked.Cut) q listing p) → NamedKeepsHeadersOut all q l listing p.text
-  told_cut end t =
-      let g : Graph = t.graph in
-      let amounts : List ℕ = amounts_by layout g l.kept l.fixed l.costs in
-      let u = unhindered_told layout g.blockers (marks_refusal layout g l.fixed l.costs) (IsNamedCutOf all (has_costs l.costs) q.language listing layout g amounts) p (stated_yes p end) t.told.1 in
-      elim u.1 [
-        | inl cut ↦ record {
-          of = graph_told t;
-          set = cut.0;
-          chains = cut.1;
-          printed = ap (λ (r : Printed). r.text) cut.3;
-          kept_out = of_names_once listing q.language q.undefined t.sources t.headers (directives_of g cut.0 ++ named_directives layout q.without)
-              (answered_cut_keeps_headers_out (setting_in layout q) listing t.sources t.headers g t.graph_is u.0 (fixed_by amounts) cut.0 cut.2.nearest.cheapest.separates);
-          cheapest = cut.2;
-        }
-        | inr fixed ↦ absurd (ends_apart p Answered Negative end (ap (λ (r : Printed). r.end.kind) fixed.2) answered_negative)
-      ]
+  module _ (plain : Printed) (same : p ≡ plain) (t : IsTold AsCut q listing plain) where
+    abbrev amounts : List ℕ
+    amounts = amounts_by layout t.graph l.kept l.fixed l.costs
 
-  told_fixed : (end : p.end.kind ≡ Negative) (t : IsTold (OfNamed asked.Cut) q listing p) → NamedIsFixed q l listing p.text
-  told_fixed end t =
-      let g : Graph = t.graph in
-      let amounts : List ℕ = amounts_by layout g l.kept l.fixed l.costs in
-      let u = unhindered_told layout g.blockers (marks_refusal layout g l.fixed l.costs) (IsNamedCutOf all (has_costs l.costs) q.language listing layout g amounts) p (stated_no p end) t.told.1 in
-      elim u.1 [
-        | inl cut ↦ absurd (ends_apart p Answered Negative (ap (λ (r : Printed). r.end.kind) cut.3) end answered_negative)
-        | inr fixed ↦ record { of = graph_told t; chain = fixed.0; is_fixed = fixed.1; printed = ap (λ (r : Printed). r.text) fixed.2 }
-      ]
+    abbrev IsPrinted : report.Answer → Type 0
+    IsPrinted answer = plain ≡ printed_answer as_cut (has_costs l.costs) (about q.language listing layout t.graph) answer
 
-  cut_headline : IsAnswerBy (OfNamed asked.Cut) q p given listing → NamedCutHeadline all q l p listing
-  cut_headline is = record {
-    cut = λ end. told_cut end (told_of (OfNamed asked.Cut) q listing p (stated_yes p end) is.0);
-    none = λ end. told_fixed end (told_of (OfNamed asked.Cut) q listing p (stated_no p end) is.0);
-  }
+    keeps_out : (answer : report.Answer) → p.end.kind ≡ Answered → t.graph.blockers ≡ [] → IsAnswerOf ask.Cut t.graph amounts answer → IsPrinted answer
+        → NamedKeepsHeadersOut as_cut q l listing p.text
+    keeps_out (Removed set chains) end none cut is = record {
+      of = graph_told t;
+      set = set;
+      chains = chains;
+      printed = ap (λ (r : Printed). r.text) (same ∙ is);
+      kept_out = of_names_once listing q.language q.undefined t.sources t.headers (directives_of t.graph set ++ named_directives layout q.without)
+          (answered_cut_keeps_headers_out (setting_in layout q) listing t.sources t.headers t.graph t.graph_is none (fixed_by amounts) set cut.nearest.cheapest.separates);
+      cheapest = cut;
+    }
+    keeps_out (FixedChain chain) end none fixed is = absurd (ends_apart p Answered Negative end (ap (λ (r : Printed). r.end.kind) (same ∙ is)) answered_negative)
+    keeps_out (Chains shortest chains) end none never is = absurd never
+    keeps_out (Sources reaching chains) end none never is = absurd never
 
-  pub named_headline : IsAnswerBy (OfNamed subject) q p given listing → NamedHeadline subject all q l p listing
-  named_headline is = by subject is
+    is_fixed : (answer : report.Answer) → p.end.kind ≡ Negative → IsAnswerOf ask.Cut t.graph amounts answer → IsPrinted answer → NamedIsFixed as_cut q l listing p.text
+    is_fixed (FixedChain chain) end fixed is = record { of = graph_told t; chain = chain; is_fixed = fixed; printed = ap (λ (r : Printed). r.text) (same ∙ is) }
+    is_fixed (Removed set chains) end cut is = absurd (ends_apart p Answered Negative (ap (λ (r : Printed). r.end.kind) (same ∙ is)) end answered_negative)
+    is_fixed (Chains shortest chains) end never is = absurd never
+    is_fixed (Sources reaching chains) end never is = absurd never
+
+  cut_headline : IsNamedBy as_cut q l p given listing → NamedCutHeadline as_cut q l p listing
+  cut_headline is = record { cut = λ end. answered_of end; none = λ end. negative_of end }
     where
-      by : (a : Asked) → IsAnswerBy (OfNamed a) q p given listing → NamedHeadline a all q l p listing
-      by asked.Why given' = tt
-      by asked.Who given' = tt
-      by asked.Cut given' = cut_headline given'
+      kind_is : (kind : EndKind) → p.end.kind ≡ kind → kind ≢ Refused → p ≡ is.0
+      kind_is kind end other = plain_format as_cut (kind_of q.language listing) is.0 p (λ refused. other (sym end ∙ refused)) is.2
 
-module _ {S : Type 0} (gives : S → ℕ → Result (List ℕ) ReadFault → S → Type 0) (old new : KeptSources S) (layout : Layout) (subject : Asked) (all : Bool) (q : Question) (l : Limits) (p : Printed) where
-  pub kept_named : (graph : Graph) (n : ℕ) → old.files ≡ replicate n None → IsKnown layout graph
-      → OfKept new.files layout (λ listing. IsNamedOf subject all l q.language listing layout graph p)
-      → HoldsOfGiven (keeps gives) old new layout (IsAnswerBy (λ l g r. g ≡ graph) q p)
-      → HoldsOfGiven gives old.sources new.sources layout (λ given listing. NamedHeadline subject all q l p listing)
-  kept_named graph n none known told holds =
-      given_all (of_kept gives old new layout q (λ listing. OfKnown (IsNamedOf subject all l q.language listing)) p graph n none (λ listing laid fits. (known, told listing laid fits)) holds)
-      (λ given listing laid is. named_headline subject all q l p given listing is)
+      answered_of : p.end.kind ≡ Answered → NamedKeepsHeadersOut as_cut q l listing p.text
+      answered_of end =
+          let same : p ≡ is.0 = kind_is Answered end (λ k. cc) in
+          let at : is.0.end.kind ≡ Answered = sym (ap (λ (r : Printed). r.end.kind) same) ∙ end in
+          let t = told_of AsCut q listing is.0 (stated_yes is.0 at) is.1.0 in
+          let u = unhindered_told layout t.graph.blockers (marks_refusal layout t.graph l.fixed l.costs)
+          (IsReportOf ask.Cut as_cut (has_costs l.costs) q.language listing layout t.graph (amounts_by layout t.graph l.kept l.fixed l.costs)) is.0 (stated_yes is.0 at) t.told in
+          keeps_out is.0 same t u.1.0 end u.0 u.1.1 u.1.2
 
-  pub refused_named : HoldsOfGiven (keeps gives) old new layout (IsAnswerBy (λ l g r. ⊥) q p)
-      → HoldsOfGiven gives old.sources new.sources layout (λ given listing. NamedHeadline subject all q l p listing)
-  refused_named holds =
-      given_all (of_no_graph gives old new layout q (λ listing. OfKnown (IsNamedOf subject all l q.language listing)) p holds)
-      (λ given listing laid is. named_headline subject all q l p given listing is)
+      negative_of : p.end.kind ≡ Negative → NamedIsFixed as_cut q l listing p.text
+      negative_of end =
+          let same : p ≡ is.0 = kind_is Negative end (λ k. cc) in
+          let at : is.0.end.kind ≡ Negative = sym (ap (λ (r : Printed). r.end.kind) same) ∙ end in
+          let t = told_of AsCut q listing is.0 (stated_no is.0 at) is.1.0 in
+          let u = unhindered_told layout t.graph.blockers (marks_refusal layout t.graph l.fixed l.costs)
+          (IsReportOf ask.Cut as_cut (has_costs l.costs) q.language listing layout t.graph (amounts_by layout t.graph l.kept l.fixed l.costs)) is.0 (stated_no is.0 at) t.told in
+          is_fixed is.0 same t u.1.0 end u.1.1 u.1.2
+
+pub named_headline : (form : NamedForm) (q : Question) (l : Limits) (p : Printed) (given : List Given) (listing : Listing) → IsNamedBy form q l p given listing → NamedHeadline form q l p listing
+named_headline form q l p given listing is = by form.asked is
+  where
+    by : (a : Asked) → IsNamedBy (record form { asked = a }) q l p given listing → NamedHeadline (record form { asked = a }) q l p listing
+    by ask.Why given' = tt
+    by ask.Who given' = tt
+    by ask.Cut given' = cut_headline form q l p given listing given'

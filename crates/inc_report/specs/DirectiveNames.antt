@@ -1,5 +1,5 @@
 -- How the include directive on a line of a file is written: with one space, and without what does not say which file it names.
-use Rattle.std.specs.Prelude.{ℕ, ◌==◌, List, [], ◌∷◌, ◌++◌, Result, Ok, Err, if◌then◌else◌, codes, filter, map, take}
+use Rattle.std.specs.Prelude.{ℕ, ◌==◌, List, [], ◌∷◌, ◌++◌, Result, Ok, Err, if◌then◌else◌, codes, filter, take}
 use Rattle.std.specs.Option.{option_map_or}
 use Rattle.inc_text.specs.PhaseText.{phase_text}
 use Rattle.inc_text.specs.declared.languages.Language.{Language}
@@ -8,7 +8,7 @@ use Rattle.inc_token.specs.declared.kinds.IncludeName.TheVariants as by
 use Rattle.inc_lookup.specs.declared.projects.DirectiveId.{DirectiveId}
 use Rattle.inc_lookup.specs.Projects.{Listing, bytes_at}
 use Rattle.inc_directive.specs.FileDirectives.{Directive, file_directives}
-use Rattle.inc_directive.specs.LineKinds.{Target, Quoted, Angled, ByName, Computed, Nothing, LineKind, Include, Other}
+use Rattle.inc_directive.specs.LineKinds.{Target, Quoted, Angled, ByName, Computed, Nothing, LineKind, Include, Other, Text}
 use Rattle.inc_directive.specs.Removal.{is_removable}
 use Rattle.inc_directive.specs.declared.files.FileFault.{FileFault}
 use Rattle.inc_directive.specs.declared.kinds.DirectiveKind.TheVariants.{Foreign}
@@ -36,35 +36,39 @@ kind_words (Include by target) = by_words by ++ target_words target
 kind_words (Other Foreign) = codes "#include_next, #import or #embed"
 kind_words _ = []
 
--- a directive by its line
-pub record Named : Type 0 where
-  pub line : ℕ
-  pub name : List ℕ
-
 -- at most so many bytes of it
-abbrev pub named : Directive → Named
-named d = record { line = d.line; name = take LONGEST_NAME (kind_words d.kind) }
+abbrev pub written : LineKind → List ℕ
+written kind = take LONGEST_NAME (kind_words kind)
 
--- the directives of a file that include, from the top; a file with a fault has none
-abbrev pub names_of : Result (List Directive) FileFault → List Named
-names_of (Ok ds) = map named (filter (λ (d : Directive). is_removable d.kind) ds)
-names_of (Err fault) = []
+---- the directives of files
 
-abbrev pub file_names : Language → (bytes : List ℕ) → List Named
-file_names language bytes = names_of (file_directives language (phase_text language bytes))
+-- those that include, from the top; a file with a fault has none
+abbrev pub inclusions_of : Result (List Directive) FileFault → List Directive
+inclusions_of (Ok ds) = filter (λ (d : Directive). is_removable d.kind) ds
+inclusions_of (Err fault) = []
 
--- how the one on a line is written
-abbrev pub name_in : List Named → (line : ℕ) → List ℕ
-name_in [] line = []
-name_in (n ∷ ns) line = if n.line == line then n.name else name_in ns line
+abbrev pub file_inclusions : Language → (bytes : List ℕ) → List Directive
+file_inclusions language bytes = inclusions_of (file_directives language (phase_text language bytes))
 
-abbrev pub name_at : Language → (bytes : List ℕ) → (line : ℕ) → List ℕ
-name_at language bytes line = name_in (file_names language bytes) line
+-- what the one on a line is; no directive where none is there
+abbrev pub kind_in : List Directive → (line : ℕ) → LineKind
+kind_in [] line = Text
+kind_in (d ∷ ds) line = if d.line == line then d.kind else kind_in ds line
 
--- how a directive of a project is written
+abbrev pub kind_at : Language → (bytes : List ℕ) → (line : ℕ) → LineKind
+kind_at language bytes line = kind_in (file_inclusions language bytes) line
+
+-- what a directive of a project is
+abbrev pub kind_of : Language → Listing → DirectiveId → LineKind
+kind_of language listing d = kind_at language (bytes_at listing d.file) d.line
+
+-- the same by what is kept of its file; no directive where that is not read
+abbrev pub kept_kind : Language → Kept → DirectiveId → LineKind
+kept_kind language kept d = option_map_or (λ bytes. kind_at language bytes d.line) (kept_at kept d.file) Text
+
+-- and how it is written
 abbrev pub name_of : Language → Listing → DirectiveId → List ℕ
-name_of language listing d = name_at language (bytes_at listing d.file) d.line
+name_of language listing d = written (kind_of language listing d)
 
--- the same by what is kept of its file; nothing where that is not read
 abbrev pub kept_name : Language → Kept → DirectiveId → List ℕ
-kept_name language kept d = option_map_or (λ bytes. name_at language bytes d.line) (kept_at kept d.file) []
+kept_name language kept d = written (kept_kind language kept d)

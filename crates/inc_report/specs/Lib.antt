@@ -14,6 +14,10 @@ pub mod FaultReasons
 pub mod Fitting
 pub mod GraphText
 pub mod Headline
+pub mod JsonAnswers
+pub mod JsonDirectives
+pub mod JsonRefusals
+pub mod JsonTexts
 pub mod KeptFiles
 pub mod KeptOut
 pub mod Known
@@ -41,6 +45,7 @@ pub mod Sending
 pub mod SourceEndings
 pub mod StopReasons
 pub mod Terms
+pub mod Told
 pub mod Views
 pub mod WhoDocument
 pub mod WhoText

@@ -1,71 +1,119 @@
--- The answers in which directives stand as they are written, each with its file and line.
-use Rattle.std.specs.Prelude.{◌≡◌, ◌⊎◌, ℕ, Bool, List, Option}
+-- The answers in which directives stand as they are written, and how these are written: as lines, or as an object of JSON.
+use Rattle.std.specs.Prelude.{◌≡◌, ◌≢◌, ◌⊎◌, ℕ, Bool, false, List, [], codes}
 use Rattle.inc_text.specs.declared.languages.Language.{Language}
+use Rattle.inc_lookup.specs.declared.projects.DirectiveId.{DirectiveId}
 use Rattle.inc_lookup.specs.Given.{Given}
 use Rattle.inc_lookup.specs.Projects.{Layout, Listing}
-use Rattle.inc_graph.specs.Chains.{IsShortestOrNone, AreChainsByLast}
-use Rattle.inc_graph.specs.Cuts.{Counted, fixed_by, costs_by, IsCut, IsFixedChain}
+use Rattle.inc_directive.specs.LineKinds.{LineKind}
 use Rattle.inc_graph.specs.IncludeGraph.{Graph}
-use Rattle.inc_graph.specs.Reaching.{AreReaching, Reaching}
 use Rattle.inc_report.specs.CutDocument.{cut_document, fixed_document, has_costs}
-use Rattle.inc_report.specs.CutText.{WithAmounts}
-use Rattle.inc_report.specs.DirectiveNames.{name_of}
+use Rattle.inc_report.specs.CutText.{Unhindered, WithAmounts, marks_refusal}
+use Rattle.inc_report.specs.DirectiveNames.{kind_of, written}
 use Rattle.inc_report.specs.Documents.{Block, document_text}
-use Rattle.inc_report.specs.MissingNotes.{empty_notes}
-use Rattle.inc_report.specs.Printed.{Printed, answered_of, end_of, negative_of}
-use Rattle.inc_report.specs.Questions.{Answer, IsAnswerBy}
+use Rattle.inc_report.specs.JsonAnswers.{About, cut_json, fixed_json, who_json, why_json}
+use Rattle.inc_report.specs.JsonRefusals.{refusal_json}
+use Rattle.inc_report.specs.KeptFiles.{OfKept}
+use Rattle.inc_report.specs.Printed.{Printed, end_of, refused_for}
+use Rattle.inc_report.specs.Questions as questions
+use Rattle.inc_report.specs.Questions.{IsAnswerBy}
+use Rattle.inc_report.specs.Refusals.{Refusal, refusal_for}
 use Rattle.inc_report.specs.Terms.{Question, Limits}
+use Rattle.inc_report.specs.Told.{Answer, Chains, Sources, Removed, FixedChain, IsAnswerOf, end_kind, notes_of}
 use Rattle.inc_report.specs.WhoDocument.{who_document}
-use Rattle.inc_report.specs.WhoText.{who_notes}
 use Rattle.inc_report.specs.WhyDocument.{why_document}
-use Rattle.inc_report.specs.WhyText.{why_notes}
 use Rattle.inc_report.specs.declared.named.Asked.{Asked}
 use Rattle.inc_report.specs.declared.named.Asked.TheVariants.{Why, Who, Cut}
-use Rattle.inc_report.specs.declared.outcome.EndKind.{EndKind}
+use Rattle.inc_report.specs.declared.named.Format.{Format}
+use Rattle.inc_report.specs.declared.named.Format.TheVariants.{Gcc, Json}
+use Rattle.inc_report.specs.declared.named.NamedForm.{NamedForm}
+use Rattle.inc_report.specs.declared.outcome.EndKind.TheVariants.{Refused}
+use Rattle.inc_report.specs.declared.subjects.Subject.{Subject}
 
--- the text of a document about files of a listing
-abbrev pub named_text : Language → Listing → Layout → List Block → List ℕ
-named_text language listing layout blocks = document_text (name_of language listing) layout blocks
+---- an answer in each format
+
+-- as lines and directives
+abbrev pub answer_document : (all costed : Bool) → Layout → Graph → Answer → List Block
+answer_document all costed layout g (Chains shortest chains) = why_document all layout g shortest chains
+answer_document all costed layout g (Sources reaching chains) = who_document all layout g reaching chains
+answer_document all costed layout g (Removed set chains) = cut_document all costed layout g set chains
+answer_document all costed layout g (FixedChain chain) = fixed_document layout g chain
+
+-- as an object
+abbrev pub answer_json : (all : Bool) → About → Answer → List ℕ
+answer_json all a (Chains shortest chains) = why_json a shortest chains
+answer_json all a (Sources reaching chains) = who_json all a reaching chains
+answer_json all a (Removed set chains) = cut_json a set chains
+answer_json all a (FixedChain chain) = fixed_json a chain
+
+abbrev pub answer_lines : (all costed : Bool) → About → Answer → List ℕ
+answer_lines all costed a answer = document_text (λ d. written (a.kind d)) a.layout (answer_document all costed a.layout a.graph answer)
+
+abbrev pub answer_text : NamedForm → (costed : Bool) → About → Answer → List ℕ
+answer_text form costed a answer = elim form.format [ Gcc ↦ answer_lines form.all costed a answer | Json ↦ answer_json form.all a answer ]
+
+-- a graph whose directives are those of a listing
+abbrev pub about : Language → Listing → Layout → Graph → About
+about language listing layout g = record { layout = layout; graph = g; kind = kind_of language listing }
 
 -- it is printed so, and the call ends so
-abbrev pub printed_document : Language → Listing → Layout → List Block → EndKind → (notes : List ℕ) → Printed
-printed_document language listing layout blocks kind notes = record { text = named_text language listing layout blocks; end = end_of notes kind }
+abbrev pub printed_answer : NamedForm → (costed : Bool) → About → Answer → Printed
+printed_answer form costed a answer =
+    record { text = answer_text form costed a answer; end = end_of (notes_of a.layout a.graph answer) (end_kind answer) }
 
--- how a header reaches a source
-abbrev pub IsNamedWhy : (all : Bool) → Language → Listing → Answer
-IsNamedWhy all language listing layout g p =
-    (shortest : Option (List ℕ)) × (chains : List (List ℕ)) × IsShortestOrNone g shortest × AreChainsByLast g 0 chains
-    × (p ≡ answered_of (why_notes layout g shortest) (named_text language listing layout (why_document all layout g shortest chains)))
+---- a refusal in each format
 
--- which sources reach a header
-abbrev pub IsNamedWho : (all : Bool) → Language → Listing → Answer
-IsNamedWho all language listing layout g p =
-    (reaching : List Reaching) × (chains : List (List ℕ)) × AreReaching g g.sources reaching × AreChainsByLast g 0 chains
-    × (p ≡ answered_of (who_notes layout g reaching) (named_text language listing layout (who_document all layout g reaching chains)))
+abbrev pub command_name : Asked → List ℕ
+command_name Why = codes "why"
+command_name Who = codes "who"
+command_name Cut = codes "cut"
 
--- the nearest cut, with chains that show that none is cheaper
-abbrev pub IsNamedCut : (all costed : Bool) → Language → Listing → Layout → Graph → (amounts : List ℕ) → Printed → Type 0
-IsNamedCut all costed language listing layout g amounts p =
-    (set : List ℕ) × (chains : List Counted) × IsCut g (fixed_by amounts) (costs_by amounts) set chains
-    × (p ≡ answered_of (empty_notes layout g.missing) (named_text language listing layout (cut_document all costed layout g set chains)))
+-- a refusal is an object, and an answer stays
+abbrev pub IsObject : Asked → (kind : DirectiveId → LineKind) → (plain : Printed) → Printed → Type 0
+IsObject asked kind plain p =
+    ((reason : List ℕ) × (r : Refusal) × (plain ≡ refusal_for reason r) × (p ≡ refused_for reason (refusal_json (command_name asked) kind r)))
+    ⊎ (plain.end.kind ≢ Refused) × (p ≡ plain)
 
--- a chain of fixed edges alone
-abbrev pub IsNamedFixed : Language → Listing → Layout → Graph → (amounts : List ℕ) → Printed → Type 0
-IsNamedFixed language listing layout g amounts p =
-    (chain : List ℕ) × IsFixedChain g (fixed_by amounts) chain
-    × (p ≡ negative_of (empty_notes layout g.missing) (named_text language listing layout (fixed_document layout g chain)))
+-- what is printed in a format where this would be printed as text, or is an answer that is
+abbrev pub IsInFormat : NamedForm → (kind : DirectiveId → LineKind) → (plain : Printed) → Printed → Type 0
+IsInFormat form kind plain p = elim form.format [ Gcc ↦ p ≡ plain | Json ↦ IsObject form.asked kind plain p ]
 
--- a cut, or why there is none
-abbrev pub IsNamedCutOf : (all costed : Bool) → Language → Listing → Layout → Graph → (amounts : List ℕ) → Printed → Type 0
-IsNamedCutOf all costed language listing layout g amounts p =
-    IsNamedCut all costed language listing layout g amounts p ⊎ IsNamedFixed language listing layout g amounts p
+---- what is printed
 
--- what is printed of a graph
-abbrev pub IsNamedOf : Asked → (all : Bool) → Limits → Language → Listing → Answer
-IsNamedOf Why all l language listing = IsNamedWhy all language listing
-IsNamedOf Who all l language listing = IsNamedWho all language listing
-IsNamedOf Cut all l language listing = WithAmounts l (IsNamedCutOf all (has_costs l.costs) language listing)
+-- of a graph whose edges have these amounts
+abbrev pub IsReport : Asked → NamedForm → (costed : Bool) → About → (amounts : List ℕ) → Printed → Type 0
+IsReport asked form costed a amounts p = (answer : Answer) × IsAnswerOf asked a.graph amounts answer × (p ≡ printed_answer form costed a answer)
 
--- and of a question, and which files are read for that
-abbrev pub IsNamedBy : Asked → (all : Bool) → Question → Limits → Printed → List Given → Listing → Type 0
-IsNamedBy asked all q l p given listing = IsAnswerBy (IsNamedOf asked all l q.language listing) q p given listing
+-- the same of a graph whose directives are those of a listing
+abbrev pub IsReportOf : Asked → NamedForm → (costed : Bool) → Language → Listing → Layout → Graph → (amounts : List ℕ) → Printed → Type 0
+IsReportOf asked form costed language listing layout g amounts p = IsReport asked form costed (about language listing layout g) amounts p
+
+-- of a graph: amounts count of a cut alone
+abbrev pub IsNamedAs : Asked → NamedForm → Limits → Language → Listing → questions.Answer
+IsNamedAs Cut form l language listing layout g p = WithAmounts l (IsReportOf Cut form (has_costs l.costs) language listing) layout g p
+IsNamedAs asked form l language listing layout g p = IsReportOf asked form false language listing layout g [] p
+
+abbrev pub IsNamedOf : NamedForm → Limits → Language → Listing → questions.Answer
+IsNamedOf form l language listing = IsNamedAs form.asked form l language listing
+
+-- of a question, and which files are read for that
+abbrev pub IsNamedBy : NamedForm → Question → Limits → Printed → List Given → Listing → Type 0
+IsNamedBy form q l p given listing =
+    (plain : Printed) × IsAnswerBy (IsNamedOf form l q.language listing) q plain given listing × IsInFormat form (kind_of q.language listing) plain p
+
+---- by what is kept of the files
+
+-- printed in this format where this would be printed as text, whatever the directives of files are
+abbrev pub IsInAnyFormat : NamedForm → (plain : Printed) → Printed → Type 0
+IsInAnyFormat form plain p = (kind : DirectiveId → LineKind) → IsInFormat form kind plain p
+
+-- of a graph and the files that are kept of it
+abbrev pub IsNamedKept : NamedForm → Limits → Subject → Printed → Type 0
+IsNamedKept form l s p =
+    (plain : Printed) × OfKept s.files.now s.project.now (λ listing.
+    IsNamedOf form l s.language listing s.project.now s.graph.now plain × IsInFormat form (kind_of s.language listing) plain p)
+
+-- of what hinders a cut
+abbrev pub IsHinderedKept : Limits → Subject → Printed → Type 0
+IsHinderedKept l s p =
+    (plain : Printed) × Unhindered s.project.now s.graph.now.blockers (marks_refusal s.project.now s.graph.now l.fixed l.costs) (λ r. ⊥) plain
+    × OfKept s.files.now s.project.now (λ listing. IsObject Cut (kind_of s.language listing) plain p)

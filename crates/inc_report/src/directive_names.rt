@@ -7,11 +7,13 @@ ghost use Rattle.inc_directive.specs.DirectiveViews.{seen_directive};
 ghost use Rattle.inc_directive.specs.FileDirectives as directives;
 ghost use Rattle.inc_directive.specs.KindViews.{seen_kind, seen_target};
 ghost use Rattle.inc_directive.specs.Parts.{inclusions_in};
-ghost use Rattle.inc_report.specs.DirectiveNames.{by_words, file_names, kept_name, kind_words, name_in, named, target_words};
+ghost use Rattle.inc_report.specs.DirectiveNames.{by_words, file_inclusions, kept_kind, kind_in, kind_words, kept_name, target_words, written};
+ghost use Rattle.inc_report.specs.JsonDirectives.{directive_text};
 ghost use Rattle.inc_report.specs.MissingNotes.{shown};
-ghost use Rattle.inc_report.specs.NameTables.{known_at, seen_named};
+ghost use Rattle.inc_report.specs.NameTables.{kept_target, known_at, seen_kept, seen_named, seen_parts};
 ghost use Rattle.inc_report.specs.declared.directive_names.NamedLine as declared;
 
+use crate::json_directives::put_directive;
 use crate::kept_sources::KeptFiles;
 use crate::missing_notes::put_shown;
 use inc_directive::laws::directives_ascend;
@@ -25,12 +27,60 @@ use std::marker::Model;
 /// How many bytes of a directive are printed.
 const LONGEST_NAME: usize = 200;
 
+/// What an include directive is, without the name in it.
+#[derive(Clone, Copy)]
+enum KeptKind {
+    /// By its own name, and with what it names.
+    Include(IncludeName, KeptTarget),
+    /// Any other directive.
+    Other(DirectiveKind),
+    /// No directive.
+    Text,
+}
+
+/// What an include directive names, without the name.
+#[derive(Clone, Copy)]
+enum KeptTarget {
+    Quoted,
+    Angled,
+    ByName,
+    Computed,
+    Nothing,
+}
+
 /// An include directive by its line.
 #[derive(Drop)]
 struct NamedLine {
     line: u32,
-    /// How it is written.
+    kind: KeptKind,
+    /// The name in it, if there is one.
     name: Vec<u8>,
+}
+
+impl NamedLine {
+    /// What it is.
+    fn kind(&self) -> LineKind<'_>
+        ensures { seen_kind result ≡ seen_kept self.now }
+    {
+        match self.kind {
+            KeptKind::Include(by, target) => LineKind::Include(by, self.target(target)),
+            KeptKind::Other(kind) => LineKind::Other(kind),
+            KeptKind::Text => LineKind::Text,
+        }
+    }
+
+    /// What it names.
+    fn target(&self, target: KeptTarget) -> Target<'_>
+        ensures { seen_target result ≡ kept_target self.now.name.items target }
+    {
+        match target {
+            KeptTarget::Quoted => Target::Quoted(&self.name),
+            KeptTarget::Angled => Target::Angled(&self.name),
+            KeptTarget::ByName => Target::ByName(&self.name),
+            KeptTarget::Computed => Target::Computed,
+            KeptTarget::Nothing => Target::Nothing,
+        }
+    }
 }
 
 /// The include directives of a file, from the top.
@@ -43,11 +93,11 @@ impl Model for FileNames {
     ghost use Rattle.std.specs.Prelude.{List, map};
     ghost use Rattle.std.specs.List.{slice_set};
     ghost use Rattle.std.specs.List.Sorted.{IsNonDecreasingBy};
-    ghost use Rattle.inc_report.specs.DirectiveNames.{Named};
+    ghost use Rattle.inc_directive.specs.FileDirectives.{Directive};
     ghost use Rattle.inc_report.specs.NameTables.{seen_named};
     ghost use Rattle.inc_report.specs.declared.directive_names.NamedLine as declared;
 
-    ghost Value = { List Named };
+    ghost Value = { List Directive };
 
     ghost view = { λ f. map seen_named f.lines.items };
 
@@ -55,14 +105,14 @@ impl Model for FileNames {
 }
 
 impl FileNames {
-    /// How the directive on a line is written; nothing where none is there.
-    fn name(&self, line: u32) -> &[u8]
-        ensures { result.now ≡ name_in self.now line }
+    /// What the directive on a line is; `Text` where none is there.
+    fn kind(&self, line: u32) -> LineKind<'_>
+        ensures { seen_kind result ≡ kind_in self.now line }
     {
         let place = lines_before(&self.lines, line);
         match self.lines.get(place) {
-            Some(named) => name_if(named, line),
-            None => &[],
+            Some(named) => kind_if(named, line),
+            None => LineKind::Text,
         }
     }
 }
@@ -77,14 +127,14 @@ fn lines_before(lines: &[NamedLine], line: u32) -> usize
     lines.partition_point(|named| named.line < line)
 }
 
-/// How a directive is written, if it is on this line.
-fn name_if(named: &NamedLine, line: u32) -> &[u8]
-    ensures { result.now ≡ name_in (seen_named named.now ∷ []) line }
+/// What a directive is, if it is on this line.
+fn kind_if(named: &NamedLine, line: u32) -> LineKind<'_>
+    ensures { seen_kind result ≡ kind_in (seen_named named.now ∷ []) line }
 {
     if named.line == line {
-        return &named.name;
+        return named.kind();
     }
-    &[]
+    LineKind::Text
 }
 
 /// How the directives are written of files that were read: of each file once a directive of it is asked for.
@@ -143,15 +193,54 @@ impl<'k> NameTable<'k> {
         };
         let place = directive.file.index();
         match known(&self.files, place) {
-            Some(names) => put_shown(text, names.name(directive.line)),
+            Some(names) => put_written(text, alloc, names.kind(directive.line)),
             None => {
                 let names = names_of(alloc, bytes, self.language)?;
-                put_shown(text, names.name(directive.line))?;
+                put_written(text, alloc, names.kind(directive.line))?;
                 keep_names(&mut self.files, place, names);
                 Ok(())
             }
         }
     }
+
+    /// Adds a directive as an object of JSON, in the file with this path, which leads to the file with that path if it leads to one.
+    pub fn put_object(
+        &mut self,
+        text: &mut Vec<u8>,
+        alloc: Global,
+        directive: DirectiveId,
+        path: &[u8],
+        to: Option<&[u8]>,
+    ) -> Result<(), AllocError>
+        ensures text { OnOk result (text.new.items ≡ text.old.items
+            ++ directive_text (kept_kind self.old.language self.old.kept directive) directive.line path.now (option_map (λ p. p.now) to.entry)) }
+        ensures same { self.new ≡ self.old }
+    {
+        let line = directive.line;
+        let Some(bytes) = self.kept.bytes(directive.file) else {
+            return put_directive(text, LineKind::Text, line, path, to);
+        };
+        let place = directive.file.index();
+        match known(&self.files, place) {
+            Some(names) => put_directive(text, names.kind(line), line, path, to),
+            None => {
+                let names = names_of(alloc, bytes, self.language)?;
+                put_directive(text, names.kind(line), line, path, to)?;
+                keep_names(&mut self.files, place, names);
+                Ok(())
+            }
+        }
+    }
+}
+
+/// Adds a directive of this kind as it is written, and as it is shown on a line.
+fn put_written(text: &mut Vec<u8>, alloc: Global, kind: LineKind<'_>) -> Result<(), AllocError>
+    ensures { OnOk result (text.new.items ≡ text.old.items ++ shown (written (seen_kind kind.entry))) }
+{
+    let mut name = Vec::new(alloc);
+    put_kind(&mut name, kind)?;
+    name.truncate(LONGEST_NAME);
+    put_shown(text, &name)
 }
 
 /// What is known of the directives of a file.
@@ -176,7 +265,7 @@ fn keep_names(files: &mut Vec<Option<FileNames>>, place: usize, names: FileNames
 /// How the include directives of a file with these bytes are written.
 fn names_of(alloc: Global, bytes: &[u8], language: Language) -> Result<FileNames, AllocError>
     requires { length bytes.now ≤ LONGEST_FILE }
-    ensures { IfOk result (λ names. names ≡ file_names language bytes.now) }
+    ensures { IfOk result (λ names. names ≡ file_inclusions language bytes.now) }
 {
     let text = match splice(alloc, bytes, language) {
         Ok(text) => text,
@@ -199,7 +288,7 @@ fn names_of(alloc: Global, bytes: &[u8], language: Language) -> Result<FileNames
 /// How the include directives among the lines of a file are written.
 fn names_in(alloc: Global, found: &FileLines) -> Result<FileNames, AllocError>
     requires { IsNonDecreasingBy (λ (d : directives.Directive). d.line) (inclusions_in found.now) }
-    ensures { IfOk result (λ names. names ≡ map named (inclusions_in found.now)) }
+    ensures { IfOk result (λ names. names ≡ inclusions_in found.now) }
 {
     let mut lines = Vec::new(alloc);
     let mut left = found.inclusions();
@@ -211,15 +300,42 @@ fn names_in(alloc: Global, found: &FileLines) -> Result<FileNames, AllocError>
 
 /// A directive by its line.
 fn named(alloc: Global, directive: Directive<'_>) -> Result<NamedLine, AllocError>
-    ensures { IfOk result (λ n. seen_named n ≡ named (seen_directive directive.entry)) }
+    ensures { IfOk result (λ n. seen_named n ≡ seen_directive directive.entry) }
 {
-    let mut name = Vec::new(alloc);
-    put_kind(&mut name, directive.kind)?;
-    name.truncate(LONGEST_NAME);
+    let (kind, name) = parts_of(directive.kind);
+    let name = Vec::from_slice(alloc, name)?;
     Ok(NamedLine {
         line: directive.line,
+        kind,
         name,
     })
+}
+
+/// A kind of line and the name in it.
+fn parts_of(kind: LineKind<'_>) -> (KeptKind, &[u8])
+    ensures { seen_parts result.0 result.1.now ≡ seen_kind kind.entry }
+{
+    match kind {
+        LineKind::Include(by, target) => {
+            let (target, name) = target_parts(target);
+            (KeptKind::Include(by, target), name)
+        }
+        LineKind::Other(kind) => (KeptKind::Other(kind), &[]),
+        LineKind::Text => (KeptKind::Text, &[]),
+    }
+}
+
+/// What an include directive names, and the name.
+fn target_parts(target: Target<'_>) -> (KeptTarget, &[u8])
+    ensures { kept_target result.1.now result.0 ≡ seen_target target.entry }
+{
+    match target {
+        Target::Quoted(name) => (KeptTarget::Quoted, name),
+        Target::Angled(name) => (KeptTarget::Angled, name),
+        Target::ByName(name) => (KeptTarget::ByName, name),
+        Target::Computed => (KeptTarget::Computed, &[]),
+        Target::Nothing => (KeptTarget::Nothing, &[]),
+    }
 }
 
 /// Adds a directive of any kind.

@@ -29,7 +29,11 @@ pub(crate) fn refuse_bad_file<W: ByteSink>(
 }
 
 /// The line on a file that is called so.
-fn bad_file_line(alloc: Global, title: &[u8], fault: FileFault) -> Result<Notes, AllocError>
+pub(crate) fn bad_file_line(
+    alloc: Global,
+    title: &[u8],
+    fault: FileFault,
+) -> Result<Notes, AllocError>
     ensures { IfOk result (λ notes. notes ≡ bad_file_line title.now fault) }
 {
     reason_line(alloc, title, bad_line(fault), fault_words(fault))
@@ -69,7 +73,7 @@ pub(crate) fn put_reason(
 }
 
 /// The line of a fault; 0 where memory ran out, which is none.
-fn bad_line(fault: FileFault) -> u32
+pub(crate) fn bad_line(fault: FileFault) -> u32
     ensures { result ≡ bad_line fault }
 {
     fault.line().unwrap_or(0)

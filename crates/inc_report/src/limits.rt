@@ -87,7 +87,7 @@ pub(crate) fn refuse_hindrance<W: ByteSink>(
 }
 
 /// The refusal of marks or costs; `None` where memory ran out.
-fn refusal_of<'l>(fault: FixedFault, limits: &Limits<'l>) -> Option<Refusal<'l>>
+pub(crate) fn refusal_of<'l>(fault: FixedFault, limits: &Limits<'l>) -> Option<Refusal<'l>>
     ensures { option_map seen_refusal result ≡ refusal_of_fault limits.now.fixed limits.now.costs fault }
 {
     match fault {

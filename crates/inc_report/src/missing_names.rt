@@ -1,5 +1,5 @@
 //! The names of headers that are not found, each with how often it is named.
-ghost use Rattle.std.specs.Prelude.{◌≡◌, ◌+◌, ◌<◌, ◌≤◌, ◌++◌, ◌∷◌, ℕ, List, [], None, bytes_eq, drop, length, map, position, take, IfOk, OnOk};
+ghost use Rattle.std.specs.Prelude.{◌≡◌, ◌+◌, ◌<◌, ◌≤◌, ◌++◌, ◌∷◌, ℕ, List, [], None, Some, bytes_eq, drop, length, map, position, slice_get, take, IfOk, OnOk};
 ghost use Rattle.inc_graph.specs.HeaderNames as names;
 ghost use Rattle.inc_graph.specs.MissingLists as graphs;
 ghost use Rattle.inc_graph.specs.MissingLists.{missing_at};
@@ -105,6 +105,14 @@ impl<'m> MissingNames<'m> {
         ensures { result ≡ length self.now.names.items }
     {
         self.names.len()
+    }
+
+    /// The one at a place.
+    pub(crate) fn at(&self, place: usize) -> MissingName
+        requires { place < length self.now.names.items }
+        ensures { slice_get self.now.names.items place ≡ Some result }
+    {
+        self.names[place]
     }
 
     /// Those that are named most often, the most often first, then by the place of the first directive.

@@ -343,7 +343,7 @@ pub(crate) fn put_byte(text: &mut Vec<u8>, byte: u8) -> Result<(), AllocError>
 }
 
 /// A digit in base 16.
-fn hex_digit(n: u8) -> u8
+pub(crate) fn hex_digit(n: u8) -> u8
     requires { n < 16 }
     ensures { result ≡ hex_digit n }
 {

@@ -1,34 +1,52 @@
 //! Answers in which directives stand as they are written, each with its file and line.
-ghost use Rattle.std.specs.Prelude.{◌≡◌, None, false, length, replicate, IfSome, IfErr};
+ghost use Rattle.std.specs.Prelude.{◌≡◌, ◌≢◌, ◌<◌, ◌≤◌, ℕ, List, [], None, false, length, replicate, IfOk, IfSome, IfErr};
+ghost use Rattle.std.specs.List.{All};
 ghost use Rattle.inc_lookup.specs.Given.{HoldsOfGiven};
+ghost use Rattle.inc_graph.specs.Chains.{AreChainsByLast, IsShortestOrNone};
+ghost use Rattle.inc_graph.specs.Cuts as cuts;
 ghost use Rattle.inc_graph.specs.IncludeGraph.{IsSound};
+ghost use Rattle.inc_graph.specs.Reaching.{Reaching};
+ghost use Rattle.inc_graph.specs.declared.fixing.FixedFault.TheVariants as fault;
+ghost use Rattle.inc_report.specs.BlockedReasons.{blocked_reasons};
 ghost use Rattle.inc_report.specs.CutDocument.{has_costs};
-ghost use Rattle.inc_report.specs.CutText.{WithAmounts};
-ghost use Rattle.inc_report.specs.Documents.{AreGraphKept, AreKept};
-ghost use Rattle.inc_report.specs.KeptFiles.{OfKept};
+ghost use Rattle.inc_report.specs.CutText.{IsHindrance};
+ghost use Rattle.inc_report.specs.DirectiveNames.{kept_kind, kept_name};
+ghost use Rattle.inc_report.specs.Documents.{AreGraphKept, document_text};
+ghost use Rattle.inc_report.specs.JsonAnswers.{about_subject, why_json};
+ghost use Rattle.inc_report.specs.JsonRefusals.{mark_items, refusal_json, refusal_object};
 ghost use Rattle.inc_report.specs.NamedHeadline.{NamedHeadline};
-ghost use Rattle.inc_report.specs.NamedText.{IsNamedBy, IsNamedCutOf, IsNamedOf, IsNamedWho, IsNamedWhy, printed_document};
-ghost use Rattle.inc_report.specs.Questions.{FailsAt};
+ghost use Rattle.inc_report.specs.NamedText.{IsHinderedKept, IsInAnyFormat, IsNamedBy, IsNamedKept, IsReport, answer_lines, answer_text, command_name};
+ghost use Rattle.inc_report.specs.Printed.{Printed, refused_for};
+ghost use Rattle.inc_report.specs.Questions.{FailsAt, IsStopped, IsWithin, unread_by};
+ghost use Rattle.inc_report.specs.Refusals.{Blocked};
+ghost use Rattle.inc_report.specs.Told.{Chains, FixedChain, Removed, Sources, chain_found, told_printed};
+ghost use Rattle.inc_report.specs.Views.{seen_refusal};
+ghost use Rattle.inc_report.specs.WhyText.{why_notes};
 ghost use Rattle.inc_report.specs.Writing.{Prints, Writes, is_of_certificate, unread_of};
 
 use crate::asked::{Limits, Question};
+use crate::blocked_reasons::blocked_reasons;
 use crate::cut::nearest_cut;
 use crate::cut_document::{ChainForm, cut_document, fixed_document};
 use crate::documents::Document;
-use crate::kept_sources::{KeptFiles, KeptSources};
-use crate::limits::{amounts_of, refuse_hindrance};
+use crate::json_answers::{cut_json, fixed_json, who_json, why_json};
+use crate::json_refusals::{blocked_json, refusal_json};
+use crate::kept_sources::KeptSources;
+use crate::limits::{Hindrance, amounts_of, refusal_of, refuse_hindrance};
 use crate::missing_notes::{Notes, empty_notes, unreached_notes};
-use crate::outcome::{End, EndKind, RunFault, noted};
+use crate::outcome::{End, EndKind, RunFault};
 use crate::output::Output;
-use crate::questions::{find_graph, refuse_question};
+use crate::questions::{NoGraph, find_graph, refusal_of_question, refuse_question};
+use crate::refusals::Refusal;
+use crate::subjects::{Subject, Told};
 use crate::who::notes_of;
 use crate::who_document::who_document;
 use crate::why_document::{reached_document, unreached_document};
-use inc_cut::CutAnswer;
-use inc_graph::{Cost, Fixed, Graph, ShortestChains, SourceChains};
+use inc_cut::{CountedChains, CutAnswer};
+use inc_graph::{Cost, EdgeId, Fixed, ShortestChains, SourceChains};
 use inc_lookup::{Project, Sources};
-use inc_text::{ByteSink, Language};
-use std::alloc::Global;
+use inc_text::ByteSink;
+use std::alloc::{AllocError, Global};
 
 /// What is asked.
 #[derive(Clone, Copy, Debug, PartialEq, Eq)]
@@ -41,16 +59,40 @@ pub enum Asked {
     Cut,
 }
 
-/// What is asked, and how much of the answer is printed.
+impl Asked {
+    /// The name of the command.
+    fn name(self) -> &'static [u8]
+        ensures { result.now ≡ command_name self }
+    {
+        match self {
+            Asked::Why => b"why",
+            Asked::Who => b"who",
+            Asked::Cut => b"cut",
+        }
+    }
+}
+
+/// How an answer is written in which directives stand as they are written.
+#[derive(Clone, Copy, Debug, PartialEq, Eq)]
+pub enum Format {
+    /// In lines that editors and compilers know.
+    Gcc,
+    /// As an object of JSON, on one line.
+    Json,
+}
+
+/// What is asked, how it is written and how much of it.
 #[derive(Clone, Copy, Debug)]
 pub struct NamedForm {
     pub asked: Asked,
+    pub format: Format,
     /// Whether each chain is shown whole.
     pub all: bool,
 }
 
-/// Writes an answer in lines that editors and compilers know: a directive stands as its file, its line and how it is written, and above the
-/// directives a line says what they are. Chains that are shown whole go from a source to a header. Limits count of a cut alone.
+/// Writes an answer in which a directive stands with its file, its line and how it is written: as a line for each, with lines between
+/// them that say what they are, or as an object of JSON. Chains that are shown whole go from a source to a header. Limits count of a cut
+/// alone.
 ///
 /// The sources are given back with the sink. Each file is read once, as by [`run_why`](crate::run_why), and its bytes are kept until the
 /// call ends. All memory is taken before the first byte is written.
@@ -65,12 +107,12 @@ pub fn run_named<S: Sources, W: ByteSink>(
 ) -> (Result<End, RunFault>, S, W)
     requires { W.has_failed w ≡ false }
     ensures written { Writes (λ p. HoldsOfGiven S.gives sources result.1 project.now
-        (IsNamedBy form.asked form.all question.now limits.now p))
+        (IsNamedBy form question.now limits.now p))
         (W.written w) (W.written result.2) (W.has_failed result.2) result.0 }
     // What a cut promises, with the directives of it and those of `without` removed: no preprocessing of a source reads a header,
     // and nothing cheaper separates.
     ensures headline { Writes (λ p. HoldsOfGiven S.gives sources result.1 project.now
-        (λ _ listing. NamedHeadline form.asked form.all question.now limits.now p listing))
+        (λ _ listing. NamedHeadline form question.now limits.now p listing))
         (W.written w) (W.written result.2) (W.has_failed result.2) result.0 }
     ensures unread { IfErr result.0 (λ fault. IfSome (unread_of fault)
         (FailsAt S.gives sources result.1 project.now question.now)) }
@@ -101,9 +143,7 @@ fn answer<S: Sources, W: ByteSink>(
 ) -> Result<End, RunFault>
     requires { kept.old.files ≡ replicate (length project.now.paths) None }
     ensures sent { Prints (λ p. HoldsOfGiven S.gives kept.old.sources kept.new.sources project.now
-        (IsNamedBy form.asked form.all question.now limits.now p)) out.old out.new result }
-    ensures headline { Prints (λ p. HoldsOfGiven S.gives kept.old.sources kept.new.sources project.now
-        (λ _ listing. NamedHeadline form.asked form.all question.now limits.now p listing)) out.old out.new result }
+        (IsNamedBy form question.now limits.now p)) out.old out.new result }
     ensures unread { IfErr result (λ fault. IfSome (unread_of fault)
         (FailsAt S.gives kept.old.sources kept.new.sources project.now question.now)) }
     ensures certificate { IfErr result (λ f. is_of_certificate f ≡ false) }
@@ -111,156 +151,283 @@ fn answer<S: Sources, W: ByteSink>(
     match find_graph(alloc, project, kept, question) {
         Ok(graph) => {
             let files = &kept.files;
-            answer_graph(
-                alloc,
-                project,
-                &graph,
+            let subject = Subject {
+                project: &*project,
+                graph: &graph,
                 files,
-                question.language,
-                limits,
-                form,
-                out,
-            )
+                language: question.language,
+            };
+            answer_graph(alloc, subject, limits, form, out)
         }
-        Err(cause) => refuse_question(alloc, project, question, cause, out),
+        Err(cause) => refuse(alloc, project, question, cause, form, out),
     }
+}
+
+/// Sends why a question has no graph.
+fn refuse<W: ByteSink>(
+    alloc: Global,
+    project: &Project<'_>,
+    question: &Question<'_>,
+    cause: NoGraph,
+    form: NamedForm,
+    out: &mut Output<W>,
+) -> Result<End, RunFault>
+    requires { IsWithin (length project.now.paths) cause }
+    ensures sent { Prints (λ p. (plain : Printed) × IsStopped project.now question.now cause plain
+        × IsInAnyFormat form plain p) out.old out.new result }
+    ensures unread { IfErr result (λ f. IfSome (unread_of f) (λ r. unread_by cause ≡ Some r)) }
+    ensures certificate { IfErr result (λ f. is_of_certificate f ≡ false) }
+{
+    match form.format {
+        Format::Gcc => refuse_question(alloc, project, question, cause, out),
+        Format::Json => {
+            let (refusal, reason) = refusal_of_question(alloc, project, question, cause)?;
+            Ok(refusal_report(alloc, form.asked, refusal, reason)?.send(out))
+        }
+    }
+}
+
+/// A refusal as an object of JSON, with a reason beside it.
+fn refusal_report(
+    alloc: Global,
+    asked: Asked,
+    refusal: Refusal<'_>,
+    reason: Notes,
+) -> Result<Told, AllocError>
+    ensures { IfOk result (λ report. told_printed report ≡ refused_for reason
+        (refusal_object (command_name asked) (seen_refusal refusal.entry) (mark_items (seen_refusal refusal.entry)))) }
+{
+    Ok(Told {
+        text: refusal_json(alloc, asked.name(), refusal)?,
+        kind: EndKind::Refused,
+        notes: reason,
+    })
 }
 
 /// Sends the answer of a graph.
 fn answer_graph<W: ByteSink>(
     alloc: Global,
-    project: &Project<'_>,
-    graph: &Graph,
-    files: &KeptFiles,
-    language: Language,
+    subject: Subject<'_>,
     limits: &Limits<'_>,
     form: NamedForm,
     out: &mut Output<W>,
 ) -> Result<End, RunFault>
-    requires files { graph.now.files ≡ length project.now.paths }
-    requires sound { IsSound graph.now }
-    requires kept { AreGraphKept graph.now files.now }
-    ensures sent { Prints (λ p. OfKept files.now project.now (λ listing.
-        IsNamedOf form.asked form.all limits.now language listing project.now graph.now p)) out.old out.new result }
+    requires files { subject.graph.now.files ≡ length subject.project.now.paths }
+    requires sound { IsSound subject.graph.now }
+    requires kept { AreGraphKept subject.graph.now subject.files.now }
+    ensures sent { Prints (IsNamedKept form limits.now subject.entry) out.old out.new result }
     ensures read { IfErr result (λ f. unread_of f ≡ None) }
     ensures certificate { IfErr result (λ f. is_of_certificate f ≡ false) }
 {
     match form.asked {
-        Asked::Why => explain(alloc, project, graph, files, language, form.all, out),
-        Asked::Who => tell(alloc, project, graph, files, language, form.all, out),
-        Asked::Cut => separate(
-            alloc, project, graph, files, language, limits, form.all, out,
-        ),
+        Asked::Why => Ok(explain(alloc, subject, form)?.send(out)),
+        Asked::Who => Ok(tell(alloc, subject, form)?.send(out)),
+        Asked::Cut => separate(alloc, subject, limits, form, out),
     }
 }
 
-/// Sends how a header reaches a source.
-fn explain<W: ByteSink>(
-    alloc: Global,
-    project: &Project<'_>,
-    graph: &Graph,
-    files: &KeptFiles,
-    language: Language,
-    all: bool,
-    out: &mut Output<W>,
-) -> Result<End, RunFault>
-    requires files { graph.now.files ≡ length project.now.paths }
-    requires kept { AreGraphKept graph.now files.now }
-    ensures sent { Prints (λ p. OfKept files.now project.now (λ listing.
-        IsNamedWhy all language listing project.now graph.now p)) out.old out.new result }
-    ensures read { IfErr result (λ f. unread_of f ≡ None) }
-    ensures certificate { IfErr result (λ f. is_of_certificate f ≡ false) }
+/// How a header reaches a source.
+fn explain(alloc: Global, subject: Subject<'_>, form: NamedForm) -> Result<Told, AllocError>
+    requires { subject.graph.now.files ≡ length subject.project.now.paths }
+    ensures { IfOk result (λ report. IsReport Asked.Why form false (about_subject subject.entry) []
+        (told_printed report)) }
 {
-    let mut chains = ShortestChains::new(alloc, graph)?;
-    if chains.find_shortest() {
-        let document = reached_document(alloc, project, graph, &mut chains, all)?;
-        return send_document(
-            alloc,
-            project,
-            files,
-            language,
-            &document,
-            EndKind::Answered,
-            Notes::none(),
-            out,
-        );
+    let mut chains = ShortestChains::new(alloc, subject.graph)?;
+    let found = chains.find_shortest();
+    let notes = notes_if(alloc, subject, found)?;
+    Ok(Told {
+        text: why_text(alloc, subject, found, &mut chains, form)?,
+        kind: EndKind::Answered,
+        notes,
+    })
+}
+
+/// The notes beside the answer that a chain is found, or that none is.
+fn notes_if(alloc: Global, subject: Subject<'_>, found: bool) -> Result<Notes, AllocError>
+    requires { subject.graph.now.files ≡ length subject.project.now.paths }
+    ensures { IfOk result (λ notes. (chain : List ℕ) →
+        notes ≡ why_notes subject.entry.project.now subject.entry.graph.now (chain_found found chain)) }
+{
+    if found {
+        return Ok(Notes::none());
     }
-    let notes = unreached_notes(alloc, project, graph)?;
+    unreached_notes(alloc, subject.project, subject.graph)
+}
+
+/// The text of the chain that is made, if one is found, and of the chains that are left.
+fn why_text(
+    alloc: Global,
+    subject: Subject<'_>,
+    found: bool,
+    chains: &mut ShortestChains<'_>,
+    form: NamedForm,
+) -> Result<Vec<u8>, AllocError>
+    requires graph { chains.old.graph ≡ subject.graph.now }
+    requires shortest { IsShortestOrNone subject.graph.now (chain_found found chains.old.chain) }
+    requires chains { AreChainsByLast subject.graph.now 0 chains.old.left }
+    ensures { IfOk result (λ text. text.items ≡ answer_text form false (about_subject subject.entry)
+        (Chains (chain_found found chains.old.chain) chains.old.left)) }
+{
+    match form.format {
+        Format::Gcc => why_lines(alloc, subject, found, chains, form.all),
+        Format::Json => why_object(alloc, subject, found, chains),
+    }
+}
+
+/// The same as lines.
+fn why_lines(
+    alloc: Global,
+    subject: Subject<'_>,
+    found: bool,
+    chains: &mut ShortestChains<'_>,
+    all: bool,
+) -> Result<Vec<u8>, AllocError>
+    requires graph { chains.old.graph ≡ subject.graph.now }
+    requires shortest { IsShortestOrNone subject.graph.now (chain_found found chains.old.chain) }
+    requires chains { AreChainsByLast subject.graph.now 0 chains.old.left }
+    ensures { IfOk result (λ text. text.items ≡ answer_lines all false (about_subject subject.entry)
+        (Chains (chain_found found chains.old.chain) chains.old.left)) }
+{
+    let Subject { project, graph, .. } = subject;
+    if found {
+        let document = reached_document(alloc, project, graph, chains, all)?;
+        return lines_of(alloc, subject, &document);
+    }
     let document = unreached_document(alloc, project, graph, all)?;
-    send_document(
-        alloc,
-        project,
-        files,
-        language,
-        &document,
-        EndKind::Answered,
-        notes,
-        out,
-    )
+    lines_of(alloc, subject, &document)
 }
 
-/// Sends which sources reach a header.
-fn tell<W: ByteSink>(
+/// The same as an object.
+fn why_object(
     alloc: Global,
-    project: &Project<'_>,
-    graph: &Graph,
-    files: &KeptFiles,
-    language: Language,
-    all: bool,
-    out: &mut Output<W>,
-) -> Result<End, RunFault>
-    requires files { graph.now.files ≡ length project.now.paths }
-    requires kept { AreGraphKept graph.now files.now }
-    ensures sent { Prints (λ p. OfKept files.now project.now (λ listing.
-        IsNamedWho all language listing project.now graph.now p)) out.old out.new result }
-    ensures read { IfErr result (λ f. unread_of f ≡ None) }
-    ensures certificate { IfErr result (λ f. is_of_certificate f ≡ false) }
+    subject: Subject<'_>,
+    found: bool,
+    chains: &mut ShortestChains<'_>,
+) -> Result<Vec<u8>, AllocError>
+    ensures { IfOk result (λ text. text.items ≡ why_json (about_subject subject.entry)
+        (chain_found found chains.old.chain) chains.old.left) }
 {
-    let mut reaching = SourceChains::new(alloc, graph)?;
-    let mut chains = ShortestChains::new(alloc, graph)?;
-    let notes = notes_of(alloc, project, graph, &reaching)?;
-    let document = who_document(alloc, project, graph, &mut reaching, &mut chains, all)?;
-    send_document(
-        alloc,
-        project,
-        files,
-        language,
-        &document,
-        EndKind::Answered,
+    if !found {
+        return why_json(alloc, subject, None, chains);
+    }
+    let shortest = Vec::from_slice(alloc, chains.edges())?;
+    why_json(alloc, subject, Some(&shortest), chains)
+}
+
+/// Which sources reach a header.
+fn tell(alloc: Global, subject: Subject<'_>, form: NamedForm) -> Result<Told, AllocError>
+    requires { subject.graph.now.files ≡ length subject.project.now.paths }
+    ensures { IfOk result (λ report. IsReport Asked.Who form false (about_subject subject.entry) []
+        (told_printed report)) }
+{
+    let mut reaching = SourceChains::new(alloc, subject.graph)?;
+    let mut chains = ShortestChains::new(alloc, subject.graph)?;
+    let notes = notes_of(alloc, subject.project, subject.graph, &reaching)?;
+    Ok(Told {
+        text: who_text(alloc, subject, &mut reaching, &mut chains, form)?,
+        kind: EndKind::Answered,
         notes,
-        out,
-    )
+    })
+}
+
+/// The text of the sources and the chains that are left.
+fn who_text(
+    alloc: Global,
+    subject: Subject<'_>,
+    reaching: &mut SourceChains<'_>,
+    chains: &mut ShortestChains<'_>,
+    form: NamedForm,
+) -> Result<Vec<u8>, AllocError>
+    requires graph { reaching.old.graph ≡ subject.graph.now }
+    requires edges { All (λ (r : Reaching). All (λ i. i < length subject.graph.now.edges) r.chain) reaching.old.left }
+    requires chains { All (λ chain. All (λ i. i < length subject.graph.now.edges) chain) chains.old.left }
+    ensures { IfOk result (λ text. text.items ≡ answer_text form false (about_subject subject.entry)
+        (Sources reaching.old.left chains.old.left)) }
+{
+    let all = form.all;
+    match form.format {
+        Format::Gcc => {
+            let Subject { project, graph, .. } = subject;
+            let document = who_document(alloc, project, graph, reaching, chains, all)?;
+            lines_of(alloc, subject, &document)
+        }
+        Format::Json => who_json(alloc, subject, reaching, chains, all),
+    }
+}
+
+/// The lines of a document.
+fn lines_of(alloc: Global, subject: Subject<'_>, document: &Document) -> Result<Vec<u8>, AllocError>
+    ensures { IfOk result (λ text. text.items ≡ document_text
+        (kept_name subject.entry.language subject.entry.files.now) subject.entry.project.now document.now) }
+{
+    document.text(alloc, subject.project, subject.files, subject.language)
 }
 
 /// Sends the smallest cut of a graph, or what hinders it.
 fn separate<W: ByteSink>(
     alloc: Global,
-    project: &Project<'_>,
-    graph: &Graph,
-    files: &KeptFiles,
-    language: Language,
+    subject: Subject<'_>,
     limits: &Limits<'_>,
-    all: bool,
+    form: NamedForm,
     out: &mut Output<W>,
 ) -> Result<End, RunFault>
-    requires files { graph.now.files ≡ length project.now.paths }
-    requires kept { AreGraphKept graph.now files.now }
-    ensures sent { Prints (λ p. OfKept files.now project.now (λ listing.
-        WithAmounts limits.now (IsNamedCutOf all (has_costs limits.now.costs) language listing) project.now graph.now p))
-        out.old out.new result }
+    requires asked { form.asked ≡ Asked.Cut }
+    requires files { subject.graph.now.files ≡ length subject.project.now.paths }
+    requires sound { IsSound subject.graph.now }
+    requires kept { AreGraphKept subject.graph.now subject.files.now }
+    ensures sent { Prints (IsNamedKept form limits.now subject.entry) out.old out.new result }
     ensures read { IfErr result (λ f. unread_of f ≡ None) }
     ensures certificate { IfErr result (λ f. is_of_certificate f ≡ false) }
 {
+    let Subject { project, graph, .. } = subject;
     match amounts_of(alloc, project, graph, limits) {
         Ok(fixed) => {
-            let form = ChainForm {
-                all,
-                costed: has_costs(limits.costs),
-            };
-            send_smallest(alloc, project, graph, files, language, &fixed, form, out)
+            let costed = has_costs(limits.costs);
+            Ok(smallest(alloc, subject, &fixed, costed, form)?.send(out))
         }
-        Err(cause) => refuse_hindrance(alloc, project, graph, limits, cause, out),
+        Err(cause) => match form.format {
+            Format::Gcc => refuse_hindrance(alloc, project, graph, limits, cause, out),
+            Format::Json => Ok(hindrance_report(alloc, subject, limits, cause)?.send(out)),
+        },
     }
+}
+
+/// What hinders a cut, as an object of JSON.
+fn hindrance_report(
+    alloc: Global,
+    subject: Subject<'_>,
+    limits: &Limits<'_>,
+    cause: Hindrance,
+) -> Result<Told, RunFault>
+    requires files { subject.graph.now.files ≡ length subject.project.now.paths }
+    requires kept { AreGraphKept subject.graph.now subject.files.now }
+    requires hindered { cause ≢ Hindrance.Marks fault.NoMemory →
+        IsHindrance subject.project.now subject.graph.now limits.now cause }
+    ensures report { IfOk result (λ report. IsHinderedKept limits.now subject.entry (told_printed report)) }
+    ensures fault { IfErr result (λ f. f ≡ RunFault.NoMemory) }
+{
+    match cause {
+        Hindrance::Blocked => Ok(blocked_report(alloc, subject)?),
+        Hindrance::Marks(fault) => match refusal_of(fault, limits) {
+            Some(refusal) => Ok(refusal_report(alloc, Asked::Cut, refusal, Notes::none())?),
+            None => Err(RunFault::NoMemory),
+        },
+    }
+}
+
+/// The refusal of a cut by blockers, as an object of JSON.
+fn blocked_report(alloc: Global, subject: Subject<'_>) -> Result<Told, AllocError>
+    requires { subject.graph.now.files ≡ length subject.project.now.paths }
+    ensures { IfOk result (λ report. told_printed report
+        ≡ refused_for (blocked_reasons subject.entry.project.now subject.entry.graph.now.blockers)
+        (refusal_json (command_name Asked.Cut) (kept_kind subject.entry.language subject.entry.files.now)
+        (Blocked subject.entry.project.now subject.entry.graph.now.blockers))) }
+{
+    Ok(Told {
+        text: blocked_json(alloc, subject, Asked::Cut.name())?,
+        kind: EndKind::Refused,
+        notes: blocked_reasons(alloc, subject.project, subject.graph.blockers())?,
+    })
 }
 
 /// Whether some costs are given.
@@ -273,75 +440,81 @@ fn has_costs(costs: &[Cost<'_>]) -> bool
     }
 }
 
-/// Sends the smallest cut of a graph whose edges have these amounts.
-fn send_smallest<W: ByteSink>(
+/// The smallest cut of a graph whose edges have these amounts.
+fn smallest(
     alloc: Global,
-    project: &Project<'_>,
-    graph: &Graph,
-    files: &KeptFiles,
-    language: Language,
+    subject: Subject<'_>,
     fixed: &Fixed,
-    form: ChainForm,
-    out: &mut Output<W>,
-) -> Result<End, RunFault>
-    requires files { graph.now.files ≡ length project.now.paths }
-    requires kept { AreGraphKept graph.now files.now }
-    requires fixed { length fixed.now ≡ length graph.now.edges }
-    ensures sent { Prints (λ p. OfKept files.now project.now (λ listing.
-        IsNamedCutOf form.all form.costed language listing project.now graph.now fixed.now p)) out.old out.new result }
-    ensures read { IfErr result (λ f. unread_of f ≡ None) }
-    ensures certificate { IfErr result (λ f. is_of_certificate f ≡ false) }
+    costed: bool,
+    form: NamedForm,
+) -> Result<Told, AllocError>
+    requires files { subject.graph.now.files ≡ length subject.project.now.paths }
+    requires sound { IsSound subject.graph.now }
+    requires fixed { length fixed.now ≡ length subject.graph.now.edges }
+    ensures { IfOk result (λ report. IsReport Asked.Cut form costed (about_subject subject.entry) fixed.now
+        (told_printed report)) }
 {
+    let Subject { project, graph, .. } = subject;
     let answer = &nearest_cut(alloc, graph, fixed)?;
     let notes = empty_notes(alloc, project, graph)?;
     match answer {
         CutAnswer::Cut { edges, chains } => {
-            let document = cut_document(alloc, project, graph, edges, chains, form)?;
-            send_document(
-                alloc,
-                project,
-                files,
-                language,
-                &document,
-                EndKind::Answered,
-                notes,
-                out,
-            )
+            let text = cut_text(alloc, subject, edges, chains, costed, form)?;
+            let kind = EndKind::Answered;
+            Ok(Told { text, kind, notes })
         }
         CutAnswer::Fixed { chain } => {
-            let document = fixed_document(alloc, project, graph, chain.edges.as_slice())?;
-            send_document(
-                alloc,
-                project,
-                files,
-                language,
-                &document,
-                EndKind::Negative,
-                notes,
-                out,
-            )
+            let text = fixed_text(alloc, subject, chain.edges.as_slice(), costed, form)?;
+            let kind = EndKind::Negative;
+            Ok(Told { text, kind, notes })
         }
     }
 }
 
-/// Sends a document, and says how the call ends.
-fn send_document<W: ByteSink>(
+/// The text of a cut and its chains.
+fn cut_text(
     alloc: Global,
-    project: &Project<'_>,
-    files: &KeptFiles,
-    language: Language,
-    document: &Document,
-    kind: EndKind,
-    notes: Notes,
-    out: &mut Output<W>,
-) -> Result<End, RunFault>
-    requires { AreKept files.now document.now }
-    ensures sent { Prints (λ p. OfKept files.now project.now (λ listing.
-        p ≡ printed_document language listing project.now document.now kind notes)) out.old out.new result }
-    ensures read { IfErr result (λ f. unread_of f ≡ None) }
-    ensures certificate { IfErr result (λ f. is_of_certificate f ≡ false) }
+    subject: Subject<'_>,
+    cut: &[EdgeId],
+    chains: &CountedChains,
+    costed: bool,
+    form: NamedForm,
+) -> Result<Vec<u8>, AllocError>
+    requires cut { All (λ i. i < length subject.graph.now.edges) cut.now }
+    requires chains { All (λ (c : cuts.Counted). All (λ i. i < length subject.graph.now.edges) c.chain) chains.now }
+    requires few { length chains.now ≤ 4_294_967_295 }
+    ensures { IfOk result (λ text. text.items ≡ answer_text form costed (about_subject subject.entry)
+        (Removed cut.now chains.now)) }
 {
-    let text = document.text(alloc, project, files, language)?;
-    out.send(&text);
-    Ok(noted(kind, notes))
+    match form.format {
+        Format::Gcc => {
+            let Subject { project, graph, .. } = subject;
+            let all = form.all;
+            let lines = ChainForm { all, costed };
+            let document = cut_document(alloc, project, graph, cut, chains, lines)?;
+            lines_of(alloc, subject, &document)
+        }
+        Format::Json => cut_json(alloc, subject, cut, chains),
+    }
+}
+
+/// The text of a chain of fixed edges.
+fn fixed_text(
+    alloc: Global,
+    subject: Subject<'_>,
+    chain: &[EdgeId],
+    costed: bool,
+    form: NamedForm,
+) -> Result<Vec<u8>, AllocError>
+    requires { All (λ i. i < length subject.graph.now.edges) chain.now }
+    ensures { IfOk result (λ text. text.items ≡ answer_text form costed (about_subject subject.entry)
+        (FixedChain chain.now)) }
+{
+    match form.format {
+        Format::Gcc => {
+            let document = fixed_document(alloc, subject.project, subject.graph, chain)?;
+            lines_of(alloc, subject, &document)
+        }
+        Format::Json => fixed_json(alloc, subject, chain),
+    }
 }

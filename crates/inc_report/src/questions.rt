@@ -1,5 +1,5 @@
 //! Questions about sources and headers of a project.
-ghost use Rattle.std.specs.Prelude.{◌≡◌, ℕ, Some, [], ◌∷◌, ◌++◌, Ok, Err, false, length, IfOk, IfSome, IfErr, OnOk};
+ghost use Rattle.std.specs.Prelude.{◌≡◌, ◌≢◌, ℕ, Some, [], ◌∷◌, ◌++◌, Ok, Err, false, length, IfOk, IfSome, IfErr, OnOk};
 ghost use Rattle.inc_lookup.specs.Given.{HoldsOfGiven, FailsAfter};
 ghost use Rattle.inc_graph.specs.IncludeGraph.{AreEnds, IsGraphAnswer, IsRefusalWithin, IsSound};
 ghost use Rattle.inc_graph.specs.ReadFiles.{IsOfClosure, IsOfFiles, IsReachedAfter, read_fault_of};
@@ -7,17 +7,20 @@ ghost use Rattle.inc_check.specs.Certificates.{IsEachPathOnce};
 ghost use Rattle.inc_report.specs.Known.{IsKnown};
 ghost use Rattle.inc_report.specs.Printed.{Printed};
 ghost use Rattle.inc_report.specs.NamedFiles.{headers_at, sources_at};
-ghost use Rattle.inc_report.specs.Questions.{FailsAt, IsAnswerBy, IsFirstUnnamed, IsNoEnds, IsRefusalOf, IsStopped, IsWithin, no_header, no_source, unread_by};
+ghost use Rattle.inc_report.specs.Questions.{FailsAt, IsAnswerBy, IsFirstUnnamed, IsNoEnds, IsRefusalOf, IsStopped, IsWithin, unread_by};
+ghost use Rattle.inc_report.specs.Refusals.{refusal_for};
+ghost use Rattle.inc_report.specs.Views.{seen_refusal};
 ghost use Rattle.inc_report.specs.Terms.{named_directive, named_directives, setting_in};
 ghost use Rattle.inc_report.specs.Writing.{Prints, unread_of, is_of_certificate};
 
 use crate::asked::Question;
-use crate::fault_reasons::refuse_bad_file;
+use crate::fault_reasons::{bad_file_line, bad_line};
+use crate::missing_notes::Notes;
 use crate::named_files::{NameFault, headers_at, sources_at};
 use crate::near_names::unnamed_at;
 use crate::outcome::{End, RunFault};
 use crate::output::Output;
-use crate::refusals::{Refusal, refuse, refuse_for};
+use crate::refusals::{Refusal, refuse_for};
 use inc_graph::{Graph, GraphRefusal, Mark, Setting};
 use inc_lookup::{DirectiveId, FileId, Project, Sources};
 use inc_text::ByteSink;
@@ -225,62 +228,57 @@ pub(crate) fn refuse_question<W: ByteSink>(
     ensures unread { IfErr result (λ f. IfSome (unread_of f) (λ r. unread_by cause ≡ Some r)) }
     ensures certificate { IfErr result (λ f. is_of_certificate f ≡ false) }
 {
+    let (refusal, reason) = refusal_of_question(alloc, project, question, cause)?;
+    Ok(refuse_for(out, refusal, reason))
+}
+
+/// The refusal of a question that has no graph, and a reason beside it.
+pub(crate) fn refusal_of_question<'a>(
+    alloc: Global,
+    project: &'a Project<'_>,
+    question: &Question<'_>,
+    cause: NoGraph,
+) -> Result<(Refusal<'a>, Notes), RunFault>
+    requires { IsWithin (length project.now.paths) cause }
+    ensures refusal { IfOk result (λ r. IsStopped project.now question.now cause (refusal_for r.1 (seen_refusal r.0))) }
+    ensures sink { IfErr result (λ f. f ≢ RunFault.Write) }
+    ensures unread { IfErr result (λ f. IfSome (unread_of f) (λ r. unread_by cause ≡ Some r)) }
+    ensures certificate { IfErr result (λ f. is_of_certificate f ≡ false) }
+{
     match cause {
-        NoGraph::NoSource(place) => refuse_source(alloc, project, question, place, out),
-        NoGraph::NoHeader(place) => refuse_header(alloc, project, question, place, out),
-        NoGraph::Refused(fault) => refuse_graph(alloc, project, fault, out),
+        NoGraph::NoSource(place) => {
+            let reason = unnamed_at(alloc, project, b"source", question.from, place)?;
+            Ok((Refusal::NoSuchSource, reason))
+        }
+        NoGraph::NoHeader(place) => {
+            let headers = question.to.unwrap_or(&[]);
+            let reason = unnamed_at(alloc, project, b"header", headers, place)?;
+            Ok((Refusal::NoSuchHeader, reason))
+        }
+        NoGraph::Refused(fault) => refusal_of_graph(alloc, project, fault),
     }
 }
 
-/// Sends the refusal of the source at a place.
-fn refuse_source<W: ByteSink>(
+/// The refusal that is in place of a graph, and a reason beside it.
+fn refusal_of_graph<'a>(
     alloc: Global,
-    project: &Project<'_>,
-    question: &Question<'_>,
-    place: usize,
-    out: &mut Output<W>,
-) -> Result<End, RunFault>
-    ensures sent { Prints (λ p. p ≡ no_source project.now question.now place) out.old out.new result }
-    ensures fault { IfErr result (λ f. f ≡ RunFault.NoMemory) }
-{
-    let reason = unnamed_at(alloc, project, b"source", question.from, place)?;
-    Ok(refuse_for(out, Refusal::NoSuchSource, reason))
-}
-
-/// Sends the refusal of the header at a place.
-fn refuse_header<W: ByteSink>(
-    alloc: Global,
-    project: &Project<'_>,
-    question: &Question<'_>,
-    place: usize,
-    out: &mut Output<W>,
-) -> Result<End, RunFault>
-    ensures sent { Prints (λ p. p ≡ no_header project.now question.now place) out.old out.new result }
-    ensures fault { IfErr result (λ f. f ≡ RunFault.NoMemory) }
-{
-    let headers = question.to.unwrap_or(&[]);
-    let reason = unnamed_at(alloc, project, b"header", headers, place)?;
-    Ok(refuse_for(out, Refusal::NoSuchHeader, reason))
-}
-
-/// Sends the refusal that is in place of a graph.
-fn refuse_graph<W: ByteSink>(
-    alloc: Global,
-    project: &Project<'_>,
+    project: &'a Project<'_>,
     fault: GraphRefusal,
-    out: &mut Output<W>,
-) -> Result<End, RunFault>
+) -> Result<(Refusal<'a>, Notes), RunFault>
     requires { IsRefusalWithin (length project.now.paths) fault }
-    ensures sent { Prints (IsRefusalOf project.now fault) out.old out.new result }
+    ensures refusal { IfOk result (λ r. IsRefusalOf project.now fault (refusal_for r.1 (seen_refusal r.0))) }
+    ensures sink { IfErr result (λ f. f ≢ RunFault.Write) }
     ensures unread { IfErr result (λ f. IfSome (unread_of f) (λ r. read_fault_of fault ≡ Some r)) }
     ensures certificate { IfErr result (λ f. is_of_certificate f ≡ false) }
 {
     match fault {
         GraphRefusal::BadFile { file, fault } => {
             let path = project.path(file);
-            refuse_bad_file(alloc, path, path, fault, out)
+            let reason = bad_file_line(alloc, path, fault)?;
+            let line = bad_line(fault);
+            Ok((Refusal::BadFile { path, line }, reason))
         }
-        GraphRefusal::TooManyDirectives => Ok(refuse(out, Refusal::TooManyDirectives)),
+        GraphRefusal::TooManyDirectives => Ok((Refusal::TooManyDirectives, Notes::none())),
         GraphRefusal::CannotRead { file } => Err(RunFault::CannotRead { file }),
         GraphRefusal::FileTooLong { file } => Err(RunFault::FileTooLong { file }),
         GraphRefusal::NoMemory => Err(RunFault::NoMemory),

@@ -150,10 +150,9 @@ returns-in-Named-clause-printed g c =
     let layout = c.args.project.now in
     let q = c.args.question.now in
     let l = c.args.limits.now in
-    let asked = c.in-Named.asked in
-    let all = c.in-Named.all in
-    rw c.in-Named.is (prints gives old new layout q (λ p. HoldsOfGiven (reading gives) old new layout (IsNamedBy asked all q l p)) _ _ _
-    (λ p h. holds gives old new layout (IsNamedBy asked all q l p) h) c.run_named-ended.ensures.written c.run_named-ended.ensures.unread)
+    let form = c.in-Named.form in
+    rw c.in-Named.is (prints gives old new layout q (λ p. HoldsOfGiven (reading gives) old new layout (IsNamedBy form q l p)) _ _ _
+    (λ p h. holds gives old new layout (IsNamedBy form q l p) h) c.run_named-ended.ensures.written c.run_named-ended.ensures.unread)
 
 pub returns-in-Named-clause-promised : goal.returns-in-Named-clause-promised
 returns-in-Named-clause-promised g c =
@@ -163,10 +162,9 @@ returns-in-Named-clause-promised g c =
     let layout = c.args.project.now in
     let q = c.args.question.now in
     let l = c.args.limits.now in
-    let asked = c.in-Named.asked in
-    let all = c.in-Named.all in
-    rw c.in-Named.is (prints gives old new layout q (λ p. HoldsOfGiven (reading gives) old new layout (λ _ listing. NamedHeadline asked all q l p listing)) _ _ _
-    (λ p h. holds gives old new layout (λ _ listing. NamedHeadline asked all q l p listing) h) c.run_named-ended.ensures.headline c.run_named-ended.ensures.unread)
+    let form = c.in-Named.form in
+    rw c.in-Named.is (prints gives old new layout q (λ p. HoldsOfGiven (reading gives) old new layout (λ _ listing. NamedHeadline form q l p listing)) _ _ _
+    (λ p h. holds gives old new layout (λ _ listing. NamedHeadline form q l p listing) h) c.run_named-ended.ensures.headline c.run_named-ended.ensures.unread)
 
 pub returns-in-Ok-clause-printed : goal.returns-in-Ok-clause-printed
 returns-in-Ok-clause-printed g c =

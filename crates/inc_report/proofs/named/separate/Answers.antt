@@ -1,29 +1,23 @@
-use Rattle.std.proofs.Common.{◌∙◌, Bool, ap, subst}
-use Rattle.inc_graph.specs.MarkedEdges.{amounts_by}
+use Rattle.std.proofs.Common.{◌∙◌, ap}
 use Rattle.inc_report.specs.CutDocument.{has_costs}
-use Rattle.inc_report.specs.CutText.{marks_refusal}
-use Rattle.inc_report.specs.NamedText.{IsNamedCutOf}
 use Rattle.inc_report.specs.Terms.{Limits}
-use Rattle.inc_report.proofs.CutLemmas.{unhindered}
-use Rattle.inc_report.proofs.HeadlineLemmas.{unhindered_all}
-use Rattle.inc_report.proofs.WritingLemmas.{prints_all}
+use Rattle.inc_report.proofs.NamedLemmas.{cut_report, hindered_object, hindered_text}
+use Rattle.inc_report.proofs.WritingLemmas.{prints_all, prints_one}
 use Rattle.inc_report.proofs.named.separate.Goals as goal
 
-pub returns-in-Ok-clause-sent : goal.returns-in-Ok-clause-sent
-returns-in-Ok-clause-sent g c =
-    prints_all _ _ _ _ c.send_smallest.result
-    (λ p is. λ listing laid fits.
-    unhindered (IsNamedCutOf c.args.all (has_costs c.args.limits.now.costs) c.args.language listing) c.args.project.now c.args.graph.now c.args.limits.now _ p c.in-Ok.ensures.open c.in-Ok.ensures.named c.in-Ok.ensures.fixed
-    (subst (λ (costed : Bool). IsNamedCutOf c.args.all costed c.args.language listing c.args.project.now c.args.graph.now c.in-Ok.fixed p) (c.has_costs.ensures ∙ ap (λ (l : Limits). has_costs l.costs) c.limits.view_is) (is listing laid fits)))
-    c.send_smallest.ensures.sent
+pub returns-in_ok-smallest-in-Ok-clause-sent : goal.returns-in_ok-smallest-in-Ok-clause-sent
+returns-in_ok-smallest-in-Ok-clause-sent g c =
+    prints_one _ _ _ _ _
+    (cut_report c.args.form c.args.limits.now c.args.subject c.requires.kept _ _ _ c.requires.asked (c.has_costs-costed.ensures ∙ ap (λ (l : Limits). has_costs l.costs) c.limits.view_is) c.in-Ok.ensures.open
+    c.in-Ok.ensures.named c.in-Ok.ensures.fixed c.in_ok-smallest-in-Ok.ensures)
+    c.send.ensures
 
-pub returns-in-Err-clause-sent : goal.returns-in-Err-clause-sent
-returns-in-Err-clause-sent g c =
-    let layout = c.args.project.now in
-    let graph = c.args.graph.now in
-    let l = c.args.limits.now in
+pub returns-in-Gcc-clause-sent : goal.returns-in-Gcc-clause-sent
+returns-in-Gcc-clause-sent g c =
     prints_all _ _ _ _ c.refuse_hindrance.result
-    (λ p is. λ listing laid fits.
-    unhindered_all layout graph.blockers (marks_refusal layout graph l.fixed l.costs) (λ q. ⊥) (IsNamedCutOf c.args.all (has_costs l.costs) c.args.language listing layout graph (amounts_by layout graph l.kept l.fixed l.costs)) p
-    (λ none. absurd none) is)
+    (λ p is. hindered_text c.args.form c.args.limits.now c.args.subject c.requires.kept p c.requires.asked c.in-Gcc.is is)
     c.refuse_hindrance.ensures.sent
+
+pub returns-in_ok-hindrance_report-in-Json-clause-sent : goal.returns-in_ok-hindrance_report-in-Json-clause-sent
+returns-in_ok-hindrance_report-in-Json-clause-sent g c =
+    prints_one _ _ _ _ _ (hindered_object c.args.form c.args.limits.now c.args.subject c.requires.kept _ c.requires.asked c.in-Json.is c.in_ok-hindrance_report-in-Json.ensures.report) c.send-in-Json.ensures

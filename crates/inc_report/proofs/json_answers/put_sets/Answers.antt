@@ -1,0 +1,15 @@
+use Rattle.std.proofs.Common.{Bor, List, ℕ}
+use Rattle.std.specs.Prelude.{option_map}
+use Rattle.inc_report.specs.JsonAnswers.{found_text, to_text}
+use Rattle.inc_report.proofs.JsonSteps.{ends_then, puts_about, puts_then}
+use Rattle.inc_report.proofs.json_answers.put_sets.Goals as goal
+
+pub returns : goal.returns
+returns c =
+    let old = c.args.json.now in
+    let found =
+    puts_about (λ a. found_text a (option_map (λ (b : Bor (List ℕ)). b.now) c.args.shortest)) old c.put_from.new.json c.put_found.new.json _ c.in_ok-put_from.ensures
+    c.in_ok-put_found.ensures in
+    let status = puts_then old c.put_found.new.json c.put.new.self _ _ found c.in_ok-put.ensures in
+    let to = puts_about to_text old c.put.new.self c.put_to.new.json _ status c.in_ok-put_to.ensures in
+    ends_then c.put-2.result old c.put_to.new.json c.put-2.new.self _ _ to c.put-2.ensures
