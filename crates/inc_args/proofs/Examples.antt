@@ -7,7 +7,7 @@ use Rattle.inc_args.specs.Refusals.{refusals}
 
 -- the files of f, whose paths end in NUL, with two search directories
 abbrev pub files : FileWords
-files = record { list = Some (codes "f"); is_null = true; roots = []; dirs = codes "a" ∷ codes "b" ∷ []; system = []; last = [] }
+files = record { build = None; list = Some (codes "f"); is_null = true; roots = []; dirs = codes "a" ∷ codes "b" ∷ []; system = []; last = [] }
 
 abbrev pub cut_words : List Text
 cut_words =
@@ -39,7 +39,7 @@ standard_input_is_scanned = refl
 pub sources_are_preprocessed : meaning (codes "incut" ∷ codes "pp" ∷ codes "--files" ∷ codes "f" ∷ codes "-DA" ∷ codes "x.c" ∷ codes "y.c" ∷ codes "-D" ∷ codes "B=1" ∷ [])
     ≡ record {
       asked = Pp (record {
-        files = record { list = Some (codes "f"); is_null = false; roots = []; dirs = []; system = []; last = [] };
+        files = record { build = None; list = Some (codes "f"); is_null = false; roots = []; dirs = []; system = []; last = [] };
         sources = codes "x.c" ∷ codes "y.c" ∷ [];
         without = None;
         defines = None;
@@ -61,7 +61,7 @@ sources_are_preprocessed = refl
 pub sets_are_asked : meaning (codes "incut" ∷ codes "why" ∷ codes "--files" ∷ codes "f" ∷ codes "--from=*.c" ∷ codes "--to" ∷ codes "a.h" ∷ codes "--from" ∷ codes "x" ∷ codes "--format" ∷ codes "gcc" ∷ [])
     ≡ record {
       asked = Why (record {
-        files = record { list = Some (codes "f"); is_null = false; roots = []; dirs = []; system = []; last = [] };
+        files = record { build = None; list = Some (codes "f"); is_null = false; roots = []; dirs = []; system = []; last = [] };
         source = None;
         header = None;
         from = codes "*.c" ∷ codes "x" ∷ [];
@@ -81,7 +81,7 @@ sets_are_asked = refl
 pub sources_are_asked : meaning (codes "incut" ∷ codes "who" ∷ codes "--files" ∷ codes "f" ∷ codes "--chains" ∷ codes "--format" ∷ codes "gcc" ∷ codes "--undefined" ∷ codes "N" ∷ codes "a.h" ∷ [])
     ≡ record {
       asked = Who (record {
-        files = record { list = Some (codes "f"); is_null = false; roots = []; dirs = []; system = []; last = [] };
+        files = record { build = None; list = Some (codes "f"); is_null = false; roots = []; dirs = []; system = []; last = [] };
         source = None;
         header = Some (codes "a.h");
         from = codes "**.c" ∷ [];
@@ -101,7 +101,7 @@ sources_are_asked = refl
 pub edges_are_asked : meaning (codes "incut" ∷ codes "graph" ∷ codes "--from" ∷ codes "a.c" ∷ codes "--drop=a.c:3" ∷ codes "--files" ∷ codes "f" ∷ codes "--from" ∷ codes "b.c" ∷ [])
     ≡ record {
       asked = Graph (record {
-        files = record { list = Some (codes "f"); is_null = false; roots = []; dirs = []; system = []; last = [] };
+        files = record { build = None; list = Some (codes "f"); is_null = false; roots = []; dirs = []; system = []; last = [] };
         source = None;
         header = None;
         from = codes "a.c" ∷ codes "b.c" ∷ [];
@@ -116,3 +116,23 @@ pub edges_are_asked : meaning (codes "incut" ∷ codes "graph" ∷ codes "--from
     }
 unfolding clap_on_literals
 edges_are_asked = refl
+
+-- with a build, each of its sources is one
+pub sources_of_a_build_are_asked : meaning (codes "incut" ∷ codes "graph" ∷ codes "-pb" ∷ codes "--root=r" ∷ [])
+    ≡ record {
+      asked = Graph (record {
+        files = record { build = Some (codes "b"); list = None; is_null = false; roots = codes "r" ∷ []; dirs = []; system = []; last = [] };
+        source = None;
+        header = None;
+        from = codes "**" ∷ [];
+        to = [];
+        without = None;
+        drop = [];
+        undefined = [];
+      });
+      languages = record { is_extended = false; is_gnu = false };
+      is_quiet = false;
+      follows = false;
+    }
+unfolding clap_on_literals
+sources_of_a_build_are_asked = refl

@@ -14,6 +14,10 @@ flag name = record (new_rule name) { long = Some name; action = Some SetTrue }
 abbrev pub option : Text → Rule
 option name = record (new_rule name) { long = Some name; value_names = 1; action = Some Set }
 
+-- an option with this letter, which takes a value and may be given once
+abbrev pub single : (letter : ℕ) → Text → Rule
+single letter name = record (new_rule name) { short = Some letter; value_names = 1; action = Some Set }
+
 -- an option with this letter, which takes a value and may be given again
 abbrev pub repeated : (letter : ℕ) → Text → Rule
 repeated letter name = record (new_rule name) { short = Some letter; value_names = 1; action = Some Append }
@@ -40,6 +44,10 @@ gnu = flag (codes "gnu")
 
 abbrev pub files : Rule
 files = option (codes "files")
+
+-- -p
+abbrev pub build : Rule
+build = single 112 (codes "build")
 
 abbrev pub root : Rule
 root = repeated_option (codes "root")
@@ -157,7 +165,7 @@ command name rules = with_rules (new_app name) rules
 
 -- what tells the files of a project
 abbrev pub list_rules : List Rule
-list_rules = files ∷ null ∷ root ∷ follow ∷ []
+list_rules = build ∷ files ∷ null ∷ root ∷ follow ∷ []
 
 -- in which directories headers are searched, and which directives are taken as removed
 abbrev pub search_rules : List Rule

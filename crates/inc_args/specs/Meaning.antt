@@ -6,9 +6,10 @@ use Rattle.inc_args.specs.CommandLine.{incut}
 
 ---- what may be asked for
 
--- the files of a project: who lists them, if a word says so, whether NUL ends a path of that list and not a line feed, the folders below
--- which they are found, and the include path: the directories of one's own headers, those of the system's, and the system's last ones
+-- the files of a project: the compilation database of its build, if a word names one; who lists them, if a word says so, whether NUL ends
+-- a path of that list and not a line feed, the folders below which they are found, and the include path: the directories of one's own headers, those of the system's, and the system's last ones
 pub record FileWords : Type 0 where
+  pub build : Option Text
   pub list : Option Text
   pub is_null : Bool
   pub roots : List Text
@@ -122,6 +123,7 @@ values_of name rows = unwrap_or (all_of name rows) []
 
 abbrev pub files_in : List Row → FileWords
 files_in rows = record {
+  build = first_of (codes "build") rows;
   list = first_of (codes "files") rows;
   is_null = is_given (codes "null") rows;
   roots = values_of (codes "root") rows;
@@ -142,13 +144,18 @@ question_in rows = record {
   undefined = values_of (codes "undefined") rows;
 }
 
--- the words of --from, which stand for each .c file of the project where there are none
-abbrev pub or_all : List Text → List Text
-or_all [] = codes "**.c" ∷ []
-or_all (word ∷ words) = word ∷ words
+-- the glob of the sources where no word names them: each source of the build, where there is one, and else each .c file of the project
+abbrev pub all_sources : (build : Option Text) → Text
+all_sources None = codes "**.c"
+all_sources (Some build) = codes "**"
+
+-- the words of --from, or that glob
+abbrev pub or_all : (build : Option Text) → List Text → List Text
+or_all build [] = all_sources build ∷ []
+or_all build (word ∷ words) = word ∷ words
 
 abbrev pub who_in : List Row → Question
-who_in rows = record (question_in rows) { from = or_all (values_of (codes "from") rows) }
+who_in rows = record (question_in rows) { from = or_all (first_of (codes "build") rows) (values_of (codes "from") rows) }
 
 abbrev pub limits_in : List Row → Limits
 limits_in rows = record {

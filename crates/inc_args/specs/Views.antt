@@ -14,6 +14,7 @@ use Rattle.inc_args.specs.Meaning.{Asked, FileWords, Format, Forms, Languages, L
 
 abbrev pub seen_files : FileList → FileWords
 seen_files f = record {
+  build = option_map (λ b. b.now) f.build;
   list = option_map (λ l. l.now) f.list;
   is_null = f.is_null;
   roots = map (λ r. r.now) f.roots.items;

@@ -10,7 +10,8 @@ use crate::help::{
     WHO_NOTES, WHY_NOTES,
 };
 use crate::options::{
-    files, flag, null, option, optional_word, path, quiet, repeated, repeated_option, sources, word,
+    files, flag, null, option, optional_word, path, quiet, repeated, repeated_option, single,
+    sources, word,
 };
 use clap::Command;
 use std::alloc::{AllocError, Global};
@@ -46,7 +47,9 @@ fn with_list<'a>(alloc: Global, command: Command<'a>) -> Result<Command<'a>, All
 {
     let root = "Take the C files below DIR, without --files (repeatable) [default: .]";
     let follow = "Follow links on the way to a file of LIST";
+    let build = "Take files and include path from BUILD, a compile_commands.json or its folder";
     command
+        .arg(single(alloc, 'p', "build", "BUILD", build))?
         .arg(files(alloc))?
         .arg(null(alloc))?
         .arg(repeated_option(alloc, "root", "DIR", root))?

@@ -76,6 +76,14 @@ its path, by its name in an include, or by the end of its path:
 -I, -isystem and -idirafter name the directories in which headers are searched, as for a compiler: those
 of -isystem come after those of -I, and one that both name is searched after them alone.
 
+-p takes files and include path from a compilation database, BUILD/compile_commands.json or BUILD itself,
+as cmake, meson and bear write one. The files are those below the deepest folder that has all sources
+and directories of its entries, or those of --files or --root; the include path is that of the entries
+of SOURCE, and after it the directories of -I, -isystem and -idirafter. Sources and headers are named by
+their paths from the folder of the run, or by absolute ones:
+
+  incut why -p build src/main.c net/api.h
+
 To search other files, list them, one path a line, and give --files. One of these makes a list:
 
   git -c core.quotePath=false ls-files --deduplicate '*.c' '*.h' > files.txt

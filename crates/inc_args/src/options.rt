@@ -29,6 +29,24 @@ pub(crate) fn option<'a>(alloc: Global, name: &'a str, value: &'a str, help: &'a
         .help(help)
 }
 
+/// The option with this letter and a value, which may be given once.
+pub(crate) fn single<'a>(
+    alloc: Global,
+    letter: char,
+    name: &'a str,
+    value: &'a str,
+    help: &'a str,
+) -> Arg<'a>
+    ensures rule { rule_of result ≡ rules.single letter name.entry.now }
+    ensures local { result.global ≡ false }
+{
+    Arg::new(alloc, name)
+        .short(letter)
+        .value_name(value)
+        .action(ArgAction::Set)
+        .help(help)
+}
+
 /// The option with this letter and a value, which may be given again.
 pub(crate) fn repeated<'a>(
     alloc: Global,

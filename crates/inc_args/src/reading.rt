@@ -126,6 +126,7 @@ fn read_files<'a>(alloc: Global, matches: &ArgMatches<'a>) -> Result<FileList<'a
     ensures { IfOk result (λ f. seen_files f ≡ files_in (rows_of (found_of matches.now))) }
 {
     Ok(FileList {
+        build: given(matches, "build"),
         list: given(matches, "files"),
         is_null: is_given(matches, "null"),
         roots: values(alloc, matches, "root")?,
@@ -153,15 +154,26 @@ fn read_question<'a>(
     })
 }
 
-/// The same, where each `.c` file of the project is a source if no word says which.
+/// The same, where each source of the build, or each `.c` file of the project, is one if no word says which.
 fn read_who<'a>(alloc: Global, matches: &ArgMatches<'a>) -> Result<QuestionArgs<'a>, AllocError>
     ensures { IfOk result (λ q. seen_question q ≡ who_in (rows_of (found_of matches.now))) }
 {
     let mut question = read_question(alloc, matches)?;
     if question.from.is_empty() {
-        question.from.push("**.c")?;
+        let all = all_sources(question.files.build);
+        question.from.push(all)?;
     }
     Ok(question)
+}
+
+/// The glob of the sources where no word names them.
+fn all_sources(build: Option<&str>) -> &'static str
+    ensures { result.now ≡ meaning.all_sources (option_map (λ b. b.now) build.entry) }
+{
+    match build {
+        Some(_) => "**",
+        None => "**.c",
+    }
 }
 
 fn read_limits<'a>(alloc: Global, matches: &ArgMatches<'a>) -> Result<LimitArgs<'a>, AllocError>

@@ -44,6 +44,8 @@ pub enum Request<'a> {
 /// The files of a project.
 #[derive(Drop)]
 pub struct FileList<'a> {
+    /// The compilation database of the build, or the folder of one.
+    pub build: Option<&'a str>,
     /// The file that lists them; `-` is standard input.
     pub list: Option<&'a str>,
     /// Whether NUL ends each path of the list, and not a line feed.

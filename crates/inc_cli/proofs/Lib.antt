@@ -1,7 +1,9 @@
+pub mod Askings
 pub mod BesideLemmas
 pub mod Fronts
 pub mod Listed
 pub mod ListedPrints
 pub mod ListedReadings
 pub mod Names
+pub mod PlacedLemmas
 pub mod RunLemmas

@@ -1,16 +1,14 @@
 -- How a run goes on after a reading.
 use Rattle.std.proofs.Common.{◌≡◌, ◌≢◌, ◌∙◌, ℕ, List, ap, Option, Some, None, Result, Ok, Err, Bool, true, false, sym, refl, subst}
 use Rattle.std.specs.Io.KnownBytes.{Keeps}
-use Rattle.inc_graph.specs.Marks.{Mark}
 use Rattle.inc_inputs.proofs.StepLemmas.{apart, is_value, then_err, then_ok}
 use Rattle.inc_args.specs.Meaning.{Meaning}
-use Rattle.inc_cli.specs.Outputs.{Answer, Following, IsRun, Output}
+use Rattle.inc_cli.specs.Outputs.{Answer, Following, Follows, IsRun, Output}
 use Rattle.inc_cli.specs.Processes.{IsTold, IsToldRun}
-use Rattle.inc_cli.specs.Views.{texts_of}
 use Rattle.inc_cli.specs.declared.runs.Ended.TheVariants.{Status}
 use Rattle.inc_inputs.specs.Reports.{Report, out_of_memory}
-use Rattle.inc_inputs.specs.Texts.{Texts, unless, unless_reported}
-use Rattle.inc_inputs.specs.Steps.{Comes, Step, comes_to, judged, then}
+use Rattle.inc_inputs.specs.Texts.{unless, unless_reported}
+use Rattle.inc_inputs.specs.Steps.{Comes, Step, comes_to, judged, next_of, then}
 
 module _ {S A B : Type 0} (first : Step S A) (next : A → Step S B) (P : Following S B) (old mid : S) (out : Output) (answer : Result Answer Report) where
   -- after a value
@@ -33,6 +31,14 @@ module _ {S A B : Type 0} (first : Step S A) (next : A → Step S B) (P : Follow
     reads = then_err first next old mid r (subst (λ y. first old y mid) e (one (apart x answer r e f not)));
     follows = (f, keeps);
   }
+
+  -- after a reading, whatever it came to
+  pub run_read : (x : Result A Report) → Comes first old x mid → answer ≢ Err out_of_memory → IsRun (next_of next x) P mid out answer
+      → IsRun (then first next) P old out answer
+  run_read (Ok a) one not r = run_then (Ok a) a refl one r
+  run_read (Err e) one not r =
+      let f : Follows P (Err e) r.mid out answer = subst (λ a. Follows P a r.mid out answer) r.reads.0 r.follows in
+      run_err (Err e) e refl f.0 one f.1 not
 
 -- a step that is taken
 pub run_unless : {S A : Type 0} (b : Bool) (report : Report) (step : Step S A) (P : Following S A) (old : S) (out : Output) (answer : Result Answer Report)
@@ -111,10 +117,7 @@ run_reported {S} {A} o report step P old out answer e f keeps =
     subst (λ c. IsRun (unless_reported c step) P old out answer) (sym e)
     (record { asked = Err report; mid = old; reads = (refl, refl); follows = (f, keeps) })
 
--- after texts of which two are lent
-pub run_lent : {S A : Type 0} (next : Texts → Step S A) (P : Following S A) (old : S) (out : Output) (answer : Result Answer Report)
-    (list lent : List ℕ) (fixed without : List Mark) (costs lent_costs : List ℕ)
-    → IsRun (next (texts_of lent fixed without lent_costs)) P old out answer → lent ≡ list → lent_costs ≡ costs → IsRun (next (texts_of list fixed without costs)) P old out answer
-run_lent next P old out answer list lent fixed without costs lent_costs run listed costed =
-    subst (λ (x : List ℕ). IsRun (next (texts_of list fixed without x)) P old out answer) costed
-    (subst (λ (x : List ℕ). IsRun (next (texts_of x fixed without lent_costs)) P old out answer) listed run)
+-- where nothing came of a reading, that is the end
+pub run_failed : {S A : Type 0} (report : Report) (P : Following S A) (old : S) (out : Output) (answer : Result Answer Report)
+    → answer ≡ Err report → Keeps out.before out.after → IsRun (comes_to (Err report)) P old out answer
+run_failed report P old out answer f keeps = record { asked = Err report; mid = old; reads = (refl, refl); follows = (f, keeps) }

@@ -1,3 +1,4 @@
+pub mod Commands
 pub mod Languages
 pub mod Notes
 pub mod Outputs

@@ -1,5 +1,5 @@
 -- What a run comes to that preprocesses sources.
-use Rattle.std.specs.Prelude.{◌≡◌, ◌++◌, ◌||◌, ℕ, Bool, true, false, List, [], ◌∷◌, Result, Ok, IfErr, IfSome, is_some}
+use Rattle.std.specs.Prelude.{◌≡◌, ◌++◌, ◌||◌, ℕ, Bool, true, false, List, [], ◌∷◌, Option, Some, None, Result, Ok, IfErr, IfSome, is_some}
 use Rattle.std.specs.Io.KnownBytes.{Appends}
 use Rattle.inc_text.specs.declared.languages.Language.{Language}
 use Rattle.inc_text.specs.declared.devices.ReadFault.{ReadFault}
@@ -21,11 +21,14 @@ use Rattle.inc_inputs.specs.IncludePath.{dir_names, include_path}
 use Rattle.inc_inputs.specs.Inputs.{Gives, Puts, listed}
 use Rattle.inc_inputs.specs.declared.failures.Hindrance.{Hindrance}
 use Rattle.inc_cli.specs.Outputs.{Answer, Following, Output, ended}
-use Rattle.inc_inputs.specs.PpTexts.{PpTexts, pp_texts}
+use Rattle.inc_inputs.specs.PpTexts.{PpTexts, pp_texts, pp_texts_beside}
+use Rattle.inc_inputs.specs.BuildProjects.{Found, found_preprocessing, with_macros, words_fault, words_of_pp}
+use Rattle.inc_inputs.specs.BuildSteps.{found_if}
+use Rattle.inc_build.specs.declared.compiler_words.Kind.{Kind}
 use Rattle.inc_inputs.specs.Reports.{Report, input_twice, no_file, one_file}
 use Rattle.inc_inputs.specs.Steps.{Step, comes_to, next_of, then, writes_if}
 use Rattle.inc_inputs.specs.ProjectLists.{paths_in}
-use Rattle.inc_inputs.specs.Texts.{are_one, are_twice, listed_layout, names_input, unless}
+use Rattle.inc_inputs.specs.Texts.{are_one, are_twice, listed_layout, names_input, unless, unless_reported}
 
 -- with --missing-empty
 abbrev pub missing_of : (is_empty : Bool) → Missing
@@ -38,31 +41,60 @@ pub record PpAsked : Type 0 where
   pub paths : List (List ℕ)
   pub layout : Layout
   pub question : PpQuestion
+  -- what is noted of a build
+  pub notes : List ℕ
 
 -- the include path by the words and by what describes a compiler
 abbrev pub searched : Preprocessing → PpTexts → List NamedDir
 searched p texts = include_path p.files (described_dirs texts.compiler.text)
 
--- by the texts, nothing more being read: the words of the compiler come first, and those of the command line last
-abbrev pub pp_asked : {S : Type 0} → Language → Preprocessing → PpTexts → Step S PpAsked
-pp_asked language p texts =
+-- by the texts, nothing more being read: the words of the compiler come first, and those of the command line last. Those of the entry of a
+-- build stand between, each of which may take away what was defined before it
+abbrev pub pp_asked : {S : Type 0} → Language → Preprocessing → (macros : List (Kind × List ℕ)) → (notes : List ℕ) → PpTexts → Step S PpAsked
+pp_asked language p macros notes texts =
     then (comes_to (listed_layout (paths_in p.files texts.list) (dir_names (searched p texts)))) (λ layout.
     comes_to (Ok (record {
       paths = paths_in p.files texts.list;
       layout = layout;
       question = record {
         sources = p.sources;
-        words = texts.compiler.words ++ texts.defines ++ p.words;
+        words = with_macros (texts.compiler.words ++ texts.defines) macros ++ p.words;
         settings = found_in_settings (searched p texts) (marked_settings p.has_markers (usual_settings language (missing_of p.is_missing_empty)));
         without = texts.without;
         has_rules = is_some p.deps;
         has_endings = is_some p.status;
       };
+      notes = notes;
     })))
+
+-- a project with this list and these notes
+abbrev pub with_texts : (list notes : List ℕ) → Found → Found
+with_texts list notes f = record {
+  list = list;
+  dirs = f.dirs;
+  system = f.system;
+  last = f.last;
+  sources = f.sources;
+  headers = f.headers;
+  macros = f.macros;
+  notes = notes;
+}
+
+-- of the project that a build names, with its words in place of those of the command line
+abbrev pub pp_found : {S : Type 0} → Gives S → Language → Preprocessing → Found → Step S PpAsked
+pp_found gives language p f =
+    unless_reported (words_fault f)
+    (then (pp_texts_beside gives language f.list (found_preprocessing f p)) (λ texts. pp_asked language (found_preprocessing f p) f.macros f.notes texts))
+
+-- the same where no word names a build
+abbrev pub pp_with : {S : Type 0} → Gives S → Language → Preprocessing → Option Found → Step S PpAsked
+pp_with gives language p None = then (pp_texts gives language p) (λ texts. pp_asked language p [] [] texts)
+pp_with gives language p (Some f) = pp_found gives language p f
 
 abbrev pub pp_named : {S : Type 0} → Gives S → Language → Preprocessing → Step S PpAsked
 pp_named gives language p =
-    unless (are_twice (p.files.list ∷ p.without ∷ p.compiler ∷ p.defines ∷ [])) input_twice (then (pp_texts gives language p) (λ texts. pp_asked language p texts))
+    unless (are_twice (p.files.list ∷ p.without ∷ p.compiler ∷ p.defines ∷ [])) input_twice
+    (then (found_if gives p.files (words_of_pp p)) (λ f. pp_with gives language p f))
 
 -- no two texts go to one file
 abbrev pub pp_apart : {S : Type 0} → Gives S → Language → Preprocessing → Step S PpAsked
@@ -110,4 +142,4 @@ writes_beside puts p told = next_of (λ answer. then (writes_texts puts p answer
 abbrev pub IsPreprocessed : {S : Type 0} → Gives S → Puts S → Preprocessing → Following S PpAsked
 IsPreprocessed {S} gives puts p a old out answer =
     (result : Result End RunFault) × (hindrance : Hindrance) × (mid new : S) × PrintsEach gives a old mid out result
-    × writes_beside puts p (ended [] a.paths [] hindrance result) mid answer new
+    × writes_beside puts p (ended a.notes a.paths [] hindrance result) mid answer new

@@ -12,11 +12,12 @@ use Rattle.inc_report.specs.declared.named.Asked.{Asked}
 use Rattle.inc_report.specs.declared.named.Asked.TheVariants as asked
 use Rattle.inc_report.specs.declared.named.Format.{Format}
 use Rattle.inc_report.specs.declared.named.Format.TheVariants.{Gcc, Json}
+use Rattle.inc_cli.specs.Commands.{Blank, Check, Command, Cut, Graph, Named, Patch, Who, Why}
 use Rattle.inc_cli.specs.Languages.{language_of}
 use Rattle.inc_cli.specs.Notes.{notes_if}
 use Rattle.inc_cli.specs.Outputs.{Answer, Follows, IsRun, Output}
 use Rattle.inc_cli.specs.Preprocessings.{IsPreprocessed, pp_of}
-use Rattle.inc_cli.specs.Questions.{Blank, Check, Command, Cut, Graph, IsAnswered, IsPrinted, IsPromised, Named, Opens, Patch, Who, Why, certificate_of, has_headers}
+use Rattle.inc_cli.specs.Questions.{IsAsked, Known, Content, Promise, Opens}
 use Rattle.inc_inputs.specs.Ends.{are_ends}
 use Rattle.inc_inputs.specs.Reports.{Report, format_of_files, no_format, no_headers, report_line, two_forms}
 use Rattle.inc_cli.specs.Runs.{asked_of, no_limits}
@@ -27,11 +28,10 @@ use Rattle.inc_cli.specs.declared.runs.Ended.TheVariants.{Status, Usage}
 
 ---- the answer
 
--- a question is asked with a command
-abbrev pub IsAsked : {S T : Type 0} → Gives S → Opens S T → Language → Command → args.Question → args.Limits → (old : S) → Output
+-- the words of a question are asked with a command
+abbrev pub IsAskedBy : {S T : Type 0} → Known → Gives S → Opens S T → Language → Command → args.Question → args.Limits → (old : S) → Output
     → Result Answer Report → Type 0
-IsAsked gives o language command q l =
-    IsRun (asked_of gives language (has_headers command) q l (certificate_of command)) (IsAnswered gives (IsPrinted gives o command) command q)
+IsAskedBy known gives o language command q l = IsAsked gives o command (asked_of gives language command q l) known
 
 -- the format with this name in which directives stand as they are written
 abbrev pub format_named : (name : List ℕ) → Option Format
@@ -72,26 +72,20 @@ who_of is_terminal q f = if are_ends q then formatted is_terminal f (Who f.is_al
 abbrev pub IsAnswerTo : {S T : Type 0} → Gives S → Puts S → Opens S T → Language → (is_terminal : Bool) → args.Asked → (old : S) → Output → Result Answer Report → Type 0
 IsAnswerTo gives puts o language is_terminal (args.Scan path) old out answer = IsScan gives language path old out answer
 IsAnswerTo gives puts o language is_terminal (args.Why q f) old out answer =
-    Follows (λ command. IsAsked gives o language command q no_limits) (formatted is_terminal f Why asked.Why) old out answer
+    Follows (λ command. IsAskedBy Content gives o language command q no_limits) (formatted is_terminal f Why asked.Why) old out answer
 IsAnswerTo gives puts o language is_terminal (args.Who q f) old out answer =
-    Follows (λ command. IsAsked gives o language command q no_limits) (who_of is_terminal q f) old out answer
-IsAnswerTo gives puts o language is_terminal (args.Graph q) old out answer = IsAsked gives o language Graph q no_limits old out answer
+    Follows (λ command. IsAskedBy Content gives o language command q no_limits) (who_of is_terminal q f) old out answer
+IsAnswerTo gives puts o language is_terminal (args.Graph q) old out answer = IsAskedBy Content gives o language Graph q no_limits old out answer
 IsAnswerTo gives puts o language is_terminal (args.Cut q l f) old out answer =
-    Follows (λ command. IsAsked gives o language command q l) (form_of is_terminal f) old out answer
-IsAnswerTo gives puts o language is_terminal (args.Check q l name) old out answer = IsAsked gives o language (Check name) q l old out answer
+    Follows (λ command. IsAskedBy Content gives o language command q l) (form_of is_terminal f) old out answer
+IsAnswerTo gives puts o language is_terminal (args.Check q l name) old out answer = IsAskedBy Content gives o language (Check name) q l old out answer
 IsAnswerTo gives puts o language is_terminal (args.Pp p) old out answer = IsRun (pp_of gives language p) (IsPreprocessed gives puts p) old out answer
-
--- what is promised of a question that is asked with a command
-abbrev pub IsKept : {S T : Type 0} → Gives S → Opens S T → Language → Command → args.Question → args.Limits → (old : S) → Output
-    → Result Answer Report → Type 0
-IsKept gives o language command q l =
-    IsRun (asked_of gives language (has_headers command) q l (certificate_of command)) (IsAnswered gives (IsPromised gives o command) command q)
 
 -- a cut that is printed, and a certificate that is accepted, keep what they promise
 abbrev pub IsPromiseOf : {S T : Type 0} → Gives S → Opens S T → Language → (is_terminal : Bool) → args.Asked → (old : S) → Output → Result Answer Report → Type 0
 IsPromiseOf gives o language is_terminal (args.Cut q l f) old out answer =
-    Follows (λ command. IsKept gives o language command q l) (form_of is_terminal f) old out answer
-IsPromiseOf gives o language is_terminal (args.Check q l name) old out answer = IsKept gives o language (Check name) q l old out answer
+    Follows (λ command. IsAskedBy Promise gives o language command q l) (form_of is_terminal f) old out answer
+IsPromiseOf gives o language is_terminal (args.Check q l name) old out answer = IsAskedBy Promise gives o language (Check name) q l old out answer
 IsPromiseOf gives o language is_terminal what old out answer = Unit {0}
 
 ---- the end

@@ -1,5 +1,5 @@
 -- What a run about a source and a header comes to: what it reads and prints, and what that promises.
-use Rattle.std.specs.Prelude.{◌≡◌, ℕ, Bool, true, false, List, [], Option, Some, None, Result, IfErr, IfSome, unwrap_or}
+use Rattle.std.specs.Prelude.{◌≡◌, ℕ, false, List, [], Option, None, Result, IfErr, IfSome, unwrap_or}
 use Rattle.inc_text.specs.declared.devices.ReadFault.{ReadFault}
 use Rattle.inc_lookup.specs.Given.{Given, HoldsOfGiven}
 use Rattle.inc_lookup.specs.Projects.{Listing}
@@ -17,43 +17,15 @@ use Rattle.inc_report.specs.Questions.{FailsAt}
 use Rattle.inc_report.specs.WhoText.{IsWhoBy}
 use Rattle.inc_report.specs.WhyText.{IsWhyBy}
 use Rattle.inc_report.specs.Writing.{Writes, is_of_certificate, unread_of}
-use Rattle.inc_report.specs.declared.named.NamedForm.{NamedForm}
 use Rattle.inc_report.specs.declared.outcome.End.{End}
 use Rattle.inc_report.specs.declared.outcome.RunFault.{RunFault}
-use Rattle.inc_args.specs.Meaning.{Question}
-use Rattle.inc_inputs.specs.HeaderNames.{header_notes}
 use Rattle.inc_inputs.specs.Inputs.{Gives, listed}
 use Rattle.inc_inputs.specs.declared.failures.Hindrance.{Hindrance}
-use Rattle.inc_cli.specs.Outputs.{Answer, Output, ended}
 use Rattle.inc_inputs.specs.Reports.{Report}
+use Rattle.inc_inputs.specs.Steps.{Step}
+use Rattle.inc_cli.specs.Commands.{Command, Why, Who, Graph, Cut, Blank, Patch, Named, Check, certificate_of}
+use Rattle.inc_cli.specs.Outputs.{Answer, IsRun, Output, ended}
 use Rattle.inc_cli.specs.Runs.{Asked}
-
--- what is asked about a source and a header
-pub data Command : Type 0 where
-  Why : Command
-  -- with the chains, or without
-  Who : (with_chains : Bool) → Command
-  -- about sources alone
-  Graph : Command
-  Cut : Command
-  -- for the files of the cut with its directives blanked
-  Blank : Command
-  -- for the diff that removes its directives
-  Patch : Command
-  -- why, or which directives to remove, with directives as they are written
-  Named : NamedForm → Command
-  -- of the certificate that this word names
-  Check : (name : List ℕ) → Command
-
--- the word that names a certificate
-abbrev pub certificate_of : Command → Option (List ℕ)
-certificate_of (Check name) = Some name
-certificate_of _ = None
-
--- whether it is about headers, too
-abbrev pub has_headers : Command → Bool
-has_headers Graph = false
-has_headers _ = true
 
 -- how a word is opened that is read piece by piece, and the bytes that are left of it where they are known
 pub record Opens (S T : Type 0) : Type 1 where
@@ -93,6 +65,17 @@ IsPromised gives o (Named form) a old new p = OfFiles gives a old new (λ given 
 IsPromised gives o (Check name) a old new p =
     OfCertificate o old name (λ text. OfFiles gives a old new (λ given listing. CheckHeadline a.question a.limits text p listing))
 
+-- what is known of a printed text
+pub data Known : Type 0 where
+  -- which text it is
+  Content : Known
+  -- what holds by it of every preprocessing
+  Promise : Known
+
+abbrev pub IsKnown : {S T : Type 0} → Known → Gives S → Opens S T → Command → Asked → (old new : S) → Printed → Type 0
+IsKnown Content = IsPrinted
+IsKnown Promise = IsPromised
+
 -- P of what was printed on the way from one state to another, or a file could not be read
 pub record Prints {S : Type 0} (P : (new : S) → Printed → Type 0) (Unread : (new : S) → ℕ × ReadFault → Type 0) (out : Output) (result : Result End RunFault) : Type 0 where
   pub new : S
@@ -100,13 +83,17 @@ pub record Prints {S : Type 0} (P : (new : S) → Printed → Type 0) (Unread : 
   pub unread : IfErr result (λ fault. IfSome (unread_of fault) (Unread new))
 
 -- a question was answered so
-pub record IsAnswered {S : Type 0} (gives : Gives S) (P : Asked → (old new : S) → Printed → Type 0) (command : Command) (q : Question) (a : Asked) (old : S) (out : Output)
+pub record IsAnswered {S : Type 0} (gives : Gives S) (P : Asked → (old new : S) → Printed → Type 0) (command : Command) (a : Asked) (old : S) (out : Output)
     (answer : Result Answer Report) : Type 0 where
   pub result : Result End RunFault
   -- what stood in the way of a file, as the inputs told it
   pub hindrance : Hindrance
-  -- with what is noted of the words for headers
-  pub is : answer ≡ ended (header_notes a.layout q) a.paths (unwrap_or (certificate_of command) []) hindrance result
+  -- with what is noted of a build and of the words for headers
+  pub is : answer ≡ ended a.notes a.paths (unwrap_or (certificate_of command) []) hindrance result
   -- no certificate fails where none is named
   pub certificate : certificate_of command ≡ None → IfErr result (λ fault. is_of_certificate fault ≡ false)
   pub prints : Prints (P a old) (λ new. FailsAt (listed gives a.paths) old new a.layout a.question) out result
+
+-- a question is asked with a command, by what its words and texts come to
+abbrev pub IsAsked : {S T : Type 0} → Gives S → Opens S T → Command → Step S Asked → Known → (old : S) → Output → Result Answer Report → Type 0
+IsAsked gives o command step known = IsRun step (IsAnswered gives (IsKnown known gives o command) command)

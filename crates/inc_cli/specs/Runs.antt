@@ -1,18 +1,24 @@
 -- What is asked about sources and headers, by the words and by the texts that they name.
-use Rattle.std.specs.Prelude.{ℕ, Bool, true, false, ◌&&◌, not, List, [], ◌∷◌, Option, Some, None, Ok, unwrap_or}
+use Rattle.std.specs.Prelude.{◌≡◌, ◌⊎◌, ℕ, ◌&&◌, not, List, [], ◌∷◌, ◌++◌, Option, Some, None, Ok, Err, unwrap_or}
 use Rattle.inc_text.specs.declared.languages.Language.{Language}
+use Rattle.inc_lookup.specs.IncludePath.{NamedDir}
 use Rattle.inc_lookup.specs.Projects.{Layout}
 use Rattle.inc_report.specs.Terms as report
 use Rattle.inc_args.specs.Meaning.{Limits, Question}
-use Rattle.inc_inputs.specs.Ends.{are_ends, asked_ends}
+use Rattle.inc_graph.specs.Marks.{Cost, Mark}
+use Rattle.inc_inputs.specs.Ends.{EndPaths, are_ends, asked_ends}
 use Rattle.inc_inputs.specs.IncludePath.{dir_names, include_path}
 use Rattle.inc_inputs.specs.Inputs.{Gives}
-use Rattle.inc_inputs.specs.Places.{places_of}
-use Rattle.inc_inputs.specs.Reports.{input_twice, no_ends}
+use Rattle.inc_inputs.specs.Places.{Places, places_of}
+use Rattle.inc_inputs.specs.Reports.{Report, input_twice, no_ends}
 use Rattle.inc_inputs.specs.Steps.{Step, comes_to, judged, then}
 use Rattle.inc_inputs.specs.ProjectLists.{paths_in}
-use Rattle.inc_inputs.specs.Texts.{AreCosts, Texts, are_twice, listed_layout, texts_of, unless, unless_reported}
+use Rattle.inc_inputs.specs.Texts.{AreCosts, Texts, are_twice, listed_layout, texts_beside, texts_of, unless, unless_reported}
+use Rattle.inc_inputs.specs.BuildProjects.{Found, found_question, words_fault, words_of_question}
+use Rattle.inc_inputs.specs.BuildSteps.{found_if}
+use Rattle.inc_inputs.specs.HeaderNames.{header_notes}
 use Rattle.inc_inputs.specs.UndefinedNames.{names_report}
+use Rattle.inc_cli.specs.Commands.{Command, certificate_of, has_headers, headers_of}
 
 -- what a question about a project is asked of
 pub record Asked : Type 0 where
@@ -21,40 +27,78 @@ pub record Asked : Type 0 where
   pub layout : Layout
   pub question : report.Question
   pub limits : report.Limits
+  -- what is noted of a build and of the words for headers
+  pub notes : List ℕ
 
--- the paths of the headers, where a question is about some
-abbrev pub headers_if : (has_headers : Bool) → (to : List (List ℕ)) → Option (List (List ℕ))
-headers_if true to = Some to
-headers_if false to = None
+-- the words of a question name no sources and headers, or no directives, for this reason
+abbrev pub IsUnplaced : Layout → Question → Limits → (without fixed : List Mark) → Report → Type 0
+IsUnplaced layout q l without fixed r =
+    (asked_ends layout q ≡ Err r) ⊎ ((ends : EndPaths) × (asked_ends layout q ≡ Ok ends) × (places_of layout q l without fixed ≡ Err r))
+
+-- what texts and words hold, whatever the project
+pub record Opened : Type 0 where
+  -- the paths of the files as they are written
+  pub paths : List (List ℕ)
+  pub costs : List Cost
+  -- the names that no build defines
+  pub undefined : List (List ℕ)
+  -- the include path
+  pub dirs : List NamedDir
+
+-- what is asked once sources, headers and directives are known
+abbrev pub asked_for : Language → Command → Opened → Layout → EndPaths → Places → (notes : List ℕ) → Asked
+asked_for language command o layout ends places notes = record {
+  paths = o.paths;
+  layout = layout;
+  question = record { from = ends.from; to = headers_of command ends.to; without = places.without; language = language; undefined = o.undefined };
+  limits = record { fixed = places.fixed; kept = places.kept; costs = o.costs };
+  notes = notes;
+}
+
+-- what the texts hold, once the costs are known
+abbrev pub opened_by : Question → Texts → List Cost → Opened
+opened_by q texts costs = record { paths = paths_in q.files texts.list; costs = costs; undefined = q.undefined; dirs = include_path q.files [] }
+
+-- once they are opened, with what is noted of a build
+abbrev pub asked_opened : {S : Type 0} → Language → Command → Question → Limits → (notes : List ℕ) → (without fixed : List Mark) → Opened → Step S Asked
+asked_opened language command q l notes without fixed o =
+    then (comes_to (listed_layout o.paths (dir_names o.dirs))) (λ layout.
+    then (comes_to (asked_ends layout q)) (λ ends.
+    then (comes_to (places_of layout q l without fixed)) (λ places.
+    comes_to (Ok (asked_for language command o layout ends places (notes ++ header_notes layout q))))))
 
 -- by the texts, nothing more being read
-abbrev pub asked_by : {S : Type 0} → Language → (has_headers : Bool) → Question → Limits → Texts → Step S Asked
-asked_by language has_headers q l texts =
+abbrev pub asked_by : {S : Type 0} → Language → Command → Question → Limits → (notes : List ℕ) → Texts → Step S Asked
+asked_by language command q l notes texts =
     then (judged (AreCosts (unwrap_or l.costs []) texts.costs)) (λ costs.
-    then (comes_to (listed_layout (paths_in q.files texts.list) (dir_names (include_path q.files [])))) (λ layout.
-    then (comes_to (asked_ends layout q)) (λ ends.
-    then (comes_to (places_of layout q l texts.without texts.fixed)) (λ places.
-    comes_to (Ok (record {
-      paths = paths_in q.files texts.list;
-      layout = layout;
-      question = record { from = ends.from; to = headers_if has_headers ends.to; without = places.without; language = language; undefined = q.undefined };
-      limits = record { fixed = places.fixed; kept = places.kept; costs = costs };
-    }))))))
+    asked_opened language command q l notes texts.without texts.fixed (opened_by q texts costs))
 
 -- the words that name what is read for a question, with that of a certificate
-abbrev pub list_names : Question → Limits → (certificate : Option (List ℕ)) → List (Option (List ℕ))
-list_names q l certificate = q.files.list ∷ q.without ∷ l.fixed ∷ l.costs ∷ certificate ∷ []
+abbrev pub list_names : Command → Question → Limits → List (Option (List ℕ))
+list_names command q l = q.files.list ∷ q.without ∷ l.fixed ∷ l.costs ∷ certificate_of command ∷ []
+
+-- of the project that a build names, with its words in place of those of the question
+abbrev pub asked_found : {S : Type 0} → Gives S → Language → Command → Question → Limits → Found → Step S Asked
+asked_found gives language command q l f =
+    unless_reported (words_fault f)
+    (then (texts_beside gives f.list (found_question f q) l) (λ texts. asked_by language command (found_question f q) l f.notes texts))
+
+-- the same where no word names a build: the words of the question stand
+abbrev pub asked_with : {S : Type 0} → Gives S → Language → Command → Question → Limits → Option Found → Step S Asked
+asked_with gives language command q l None = then (texts_of gives q l) (λ texts. asked_by language command q l [] texts)
+asked_with gives language command q l (Some f) = asked_found gives language command q l f
 
 -- where the words name sources and headers
-abbrev pub asked_named : {S : Type 0} → Gives S → Language → (has_headers : Bool) → Question → Limits → (certificate : Option (List ℕ)) → Step S Asked
-asked_named gives language has_headers q l certificate =
-    unless (are_twice (list_names q l certificate)) input_twice (then (texts_of gives q l) (λ texts. asked_by language has_headers q l texts))
+abbrev pub asked_named : {S : Type 0} → Gives S → Language → Command → Question → Limits → Step S Asked
+asked_named gives language command q l =
+    unless (are_twice (list_names command q l)) input_twice
+    (then (found_if gives q.files (words_of_question q)) (λ f. asked_with gives language command q l f))
 
 -- where it is about headers, the words must name both
-abbrev pub asked_of : {S : Type 0} → Gives S → Language → (has_headers : Bool) → Question → Limits → (certificate : Option (List ℕ)) → Step S Asked
-asked_of gives language has_headers q l certificate =
-    unless (has_headers && not (are_ends q)) no_ends
-    (unless_reported (names_report language q.undefined) (asked_named gives language has_headers q l certificate))
+abbrev pub asked_of : {S : Type 0} → Gives S → Language → Command → Question → Limits → Step S Asked
+asked_of gives language command q l =
+    unless (has_headers command && not (are_ends q)) no_ends
+    (unless_reported (names_report language q.undefined) (asked_named gives language command q l))
 
 -- a question that nothing limits
 abbrev pub no_limits : Limits

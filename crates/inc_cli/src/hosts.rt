@@ -87,6 +87,26 @@ impl<'a> Inputs for HostInputs<'a> {
         list_files(self.rt, folder)
     }
 
+    fn read_whole(&mut self, alloc: Global, path: &[u8]) -> Result<Vec<u8>, ReadFault> {
+        // A path that is not UTF-8 cannot be opened.
+        let Ok(name) = str::from_utf8(path) else {
+            return Err(ReadFault::Read);
+        };
+        let Ok(file) = fs::open(self.rt, name) else {
+            return Err(ReadFault::Read);
+        };
+        let expected = expected_len(&file);
+        read_whole(alloc, &mut HostReader::new(file), expected)
+    }
+
+    fn run_folder(&mut self, alloc: Global) -> Result<Vec<u8>, ReadFault> {
+        match env::current_dir(self.rt) {
+            Ok(folder) => Ok(Vec::from_slice(alloc, folder.as_str().as_bytes())?),
+            Err(error) if error.kind() == ErrorKind::OutOfMemory => Err(ReadFault::NoMemory),
+            Err(_) => Err(ReadFault::Read),
+        }
+    }
+
     fn open(&self, alloc: Global, name: &str) -> Result<HostStream<'a>, AllocError> {
         Ok(HostStream {
             rt: self.rt,
@@ -102,6 +122,29 @@ impl<'a> Inputs for HostInputs<'a> {
             Err(_) => Err(DeviceFault),
         }
     }
+}
+
+/// How many bytes are asked of a file at a time.
+const PIECE_LEN: usize = 65_536;
+
+/// All bytes of a file, however many these are. Memory is taken at once for as many as the host says.
+fn read_whole<R: Read>(
+    alloc: Global,
+    reader: &mut HostReader<R>,
+    expected: usize,
+) -> Result<Vec<u8>, ReadFault> {
+    let mut bytes = Vec::with_capacity(alloc, expected)?;
+    let mut piece = vec![in alloc; 0u8; PIECE_LEN]?;
+    for _ in 0..u64::MAX {
+        let Ok(count) = reader.read(&mut piece) else {
+            return Err(ReadFault::Read);
+        };
+        if count == 0 {
+            break;
+        }
+        bytes.extend_from_slice(&piece[..count])?;
+    }
+    Ok(bytes)
 }
 
 /// How many bytes a file has by what the host says. A host that cannot say it has the file read as it comes.

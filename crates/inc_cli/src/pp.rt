@@ -1,28 +1,30 @@
 //! The preprocessing of sources of a project.
-ghost use Rattle.std.specs.Prelude.{◌≡◌, ◌≢◌, ◌++◌, Err, false, map, IfOk};
+ghost use Rattle.std.specs.Prelude.{◌≡◌, ◌≢◌, ◌++◌, ℕ, Err, List, false, map, IfOk};
 ghost use Rattle.inc_args.specs.Views.{seen_pp};
 ghost use Rattle.inc_pp.specs.Settings.{found_in_settings, marked_settings, usual_settings};
 ghost use Rattle.inc_cli.specs.Outputs.{IsRun};
-ghost use Rattle.inc_cli.specs.Preprocessings.{IsPreprocessed, PrintsEach, missing_of, pp_apart, pp_asked, pp_named, pp_of, searched, writes_beside, writes_texts};
+ghost use Rattle.inc_cli.specs.Preprocessings.{IsPreprocessed, PrintsEach, missing_of, pp_apart, pp_asked, pp_found, pp_named, pp_of, searched, with_texts, writes_beside, writes_texts};
 ghost use Rattle.inc_inputs.specs.Reports.{out_of_memory};
-ghost use Rattle.inc_inputs.specs.Steps.{Comes};
+ghost use Rattle.inc_inputs.specs.BuildProjects.{with_macros};
+ghost use Rattle.inc_inputs.specs.Steps.{Comes, next_of};
 ghost use Rattle.inc_cli.specs.Views.{answer_in, output_of, pp_asked_in, seen_end};
-ghost use Rattle.inc_inputs.specs.Views.{pp_texts_in, seen};
+ghost use Rattle.inc_inputs.specs.Views.{macro_of, pp_texts_in, project_in, seen, seen_pp_texts};
 
 use crate::answers::Answer;
 use crate::questions::end_of;
 use crate::runs::Setup;
 use inc_args::PpArgs;
 use inc_inputs::{
-    Failure, Inputs, ListedFiles, PpTexts, are_no_files, are_one, are_twice, bytes_of,
-    include_path, list_paths, listed_project, path_end_in, read_pp_texts, write_if,
+    BuildProject, Failure, Inputs, ListedFiles, MacroWord, PpTexts, are_no_files, are_one,
+    are_twice, bytes_of, find_preprocessing, include_path, list_paths, listed_project, path_end_in,
+    read_pp_texts, read_pp_texts_beside, with_macros, write_if,
 };
 use inc_lookup::{NamedDir, Project};
 use inc_pp::{Missing, Settings};
 use inc_report::{End, PpQuestion, RunFault, run_pp};
 use inc_text::ByteSink;
 use std::alloc::{AllocError, Global};
-use std::mem::forget;
+use std::mem::{forget, replace};
 
 /// Reads what a preprocessing rests on, and prints what it gives of each source.
 pub(crate) fn preprocess<I: Inputs, O: ByteSink>(
@@ -76,9 +78,80 @@ fn preprocess_named<I: Inputs, O: ByteSink>(
         return (Err(Failure::InputTwice), out);
     }
     let mut inputs = inputs;
-    match read_pp_texts(setup.alloc, &mut inputs, setup.language, args) {
+    match find_preprocessing(setup.alloc, setup.seed, &mut inputs, args) {
+        Ok(Some(found)) => preprocess_found(setup, args, found, inputs, out),
+        Ok(None) => {
+            let texts = read_pp_texts(setup.alloc, &mut inputs, setup.language, args);
+            let notes = Vec::new(setup.alloc);
+            preprocess_read(setup, args, &[], texts, notes, inputs, out)
+        }
+        Err(failure) => (Err(failure), out),
+    }
+}
+
+/// The same of the project of a build, with its words in place of those of the command line.
+fn preprocess_found<I: Inputs, O: ByteSink>(
+    setup: &Setup<'_>,
+    args: &PpArgs<'_>,
+    found: BuildProject,
+    inputs: I,
+    out: O,
+) -> (Result<Answer, Failure>, O)
+    requires { O.has_failed out ≡ false }
+    ensures { seen_end result.0 ≢ Err out_of_memory →
+        IsRun (pp_found I.gives setup.now.language (seen_pp args.now) (project_in found)) (IsPreprocessed I.gives I.puts (seen_pp args.now)) inputs
+        (output_of (O.written out) (O.written result.1) (O.has_failed result.1)) (seen_end result.0) }
+{
+    let mut found = found;
+    let list = replace(&mut found.list, Vec::new(setup.alloc));
+    let notes = replace(&mut found.notes, Vec::new(setup.alloc));
+    preprocess_build(setup, args, &found, list, notes, inputs, out)
+}
+
+/// The same of such a project without its list and its notes, which stand beside it.
+fn preprocess_build<'f, I: Inputs, O: ByteSink>(
+    setup: &Setup<'_>,
+    args: &'f PpArgs<'f>,
+    found: &'f BuildProject,
+    list: Vec<u8>,
+    notes: Vec<u8>,
+    inputs: I,
+    out: O,
+) -> (Result<Answer, Failure>, O)
+    requires { O.has_failed out ≡ false }
+    ensures { seen_end result.0 ≢ Err out_of_memory →
+        IsRun (pp_found I.gives setup.now.language (seen_pp args.now) (with_texts list.items notes.items (project_in found.now)))
+        (IsPreprocessed I.gives I.puts (seen_pp args.now)) inputs
+        (output_of (O.written out) (O.written result.1) (O.has_failed result.1)) (seen_end result.0) }
+{
+    let mut inputs = inputs;
+    let alloc = setup.alloc;
+    let args = match found.preprocessing(alloc, args) {
+        Ok(args) => args,
+        Err(failure) => return (Err(failure), out),
+    };
+    let texts = read_pp_texts_beside(alloc, &mut inputs, setup.language, list, &args);
+    preprocess_read(setup, &args, &found.macros, texts, notes, inputs, out)
+}
+
+/// The same of texts that were read, or not, with the words for macros of an entry, beside these notes.
+fn preprocess_read<I: Inputs, O: ByteSink>(
+    setup: &Setup<'_>,
+    args: &PpArgs<'_>,
+    macros: &[MacroWord],
+    texts: Result<PpTexts, Failure>,
+    notes: Vec<u8>,
+    inputs: I,
+    out: O,
+) -> (Result<Answer, Failure>, O)
+    requires { O.has_failed out ≡ false }
+    ensures { seen_end result.0 ≢ Err out_of_memory →
+        IsRun (next_of (λ t. pp_asked setup.now.language (seen_pp args.now) (map macro_of macros.now) notes.items t) (seen_pp_texts texts)) (IsPreprocessed I.gives I.puts (seen_pp args.now)) inputs
+        (output_of (O.written out) (O.written result.1) (O.has_failed result.1)) (seen_end result.0) }
+{
+    match texts {
         Ok(texts) => {
-            let (ended, out) = preprocess_texts(setup, args, &texts, inputs, out);
+            let (ended, out) = preprocess_texts(setup, args, macros, &texts, notes, inputs, out);
             // The process is about to end: the system takes hundreds of words back at once.
             forget(texts);
             (ended, out)
@@ -91,20 +164,22 @@ fn preprocess_named<I: Inputs, O: ByteSink>(
 fn preprocess_texts<I: Inputs, O: ByteSink>(
     setup: &Setup<'_>,
     args: &PpArgs<'_>,
+    macros: &[MacroWord],
     texts: &PpTexts,
+    notes: Vec<u8>,
     inputs: I,
     out: O,
 ) -> (Result<Answer, Failure>, O)
     requires { O.has_failed out ≡ false }
     ensures { seen_end result.0 ≢ Err out_of_memory →
-        IsRun (pp_asked setup.now.language (seen_pp args.now) (pp_texts_in texts.now)) (IsPreprocessed I.gives I.puts (seen_pp args.now)) inputs
+        IsRun (pp_asked setup.now.language (seen_pp args.now) (map macro_of macros.now) notes.items (pp_texts_in texts.now)) (IsPreprocessed I.gives I.puts (seen_pp args.now)) inputs
         (output_of (O.written out) (O.written result.1) (O.has_failed result.1)) (seen_end result.0) }
 {
     let alloc = setup.alloc;
     let Ok(paths) = list_paths(alloc, &texts.list, path_end_in(&args.files)) else {
         return (Err(Failure::NoMemory), out);
     };
-    let Ok(words) = all_words(alloc, texts, &args.words) else {
+    let Ok(words) = all_words(alloc, setup.seed, texts, macros, &args.words) else {
         return (Err(Failure::NoMemory), out);
     };
     let Ok(sources) = bytes_of(alloc, &args.sources) else {
@@ -134,7 +209,7 @@ fn preprocess_texts<I: Inputs, O: ByteSink>(
     // The process is about to end: the system takes a table of paths back at once.
     forget(project);
     let hindrance = setup.hindrance.get();
-    let told = end_of(alloc, ended, Vec::new(alloc), &paths, "", hindrance);
+    let told = end_of(alloc, ended, notes, &paths, "", hindrance);
     (write_beside(alloc, &mut files.inputs, args, told), out)
 }
 
@@ -178,7 +253,7 @@ fn print_each<I: Inputs, O: ByteSink>(
     out: O,
 ) -> (Result<End, RunFault>, O)
     requires { O.has_failed out ≡ false }
-    ensures { PrintsEach I.gives (pp_asked_in (map (λ p. p.now) files.old.paths.now) project.now question.now) files.old.inputs files.new.inputs
+    ensures { (notes : List ℕ) → PrintsEach I.gives (pp_asked_in (map (λ p. p.now) files.old.paths.now) project.now question.now notes) files.old.inputs files.new.inputs
         (output_of (O.written out) (O.written result.1) (O.has_failed result.1)) result.0 }
 {
     let mut printed = None;
@@ -221,17 +296,21 @@ fn searched<'a>(
     include_path(setup.alloc, setup.seed, &args.files, &compiler)
 }
 
-/// The words that define macros: those of the compiler, those of the list of definitions, and then those of the command line.
+/// The words that define macros: those of the compiler, those of the list of definitions, those of
+/// the entries of a build, and then those of the command line.
 fn all_words<'a>(
     alloc: Global,
+    seed: u64,
     texts: &'a PpTexts,
+    macros: &'a [MacroWord],
     words: &[&'a str],
 ) -> Result<Vec<&'a [u8]>, AllocError>
     ensures { let t = pp_texts_in texts.now in IfOk result (λ all. map (λ w. w.now) all.items
-        ≡ t.compiler.words ++ t.defines ++ map (λ w. w.now) words.now) }
+        ≡ with_macros (t.compiler.words ++ t.defines) (map macro_of macros.now) ++ map (λ w. w.now) words.now) }
 {
     let mut all = slices_of(alloc, &texts.compiler.words)?;
     all.extend_from_slice(&slices_of(alloc, &texts.defines)?)?;
+    let mut all = with_macros(alloc, seed, all, macros)?;
     all.extend_from_slice(&bytes_of(alloc, words)?)?;
     Ok(all)
 }

@@ -1,16 +1,21 @@
 //! Questions about sources and headers of a project.
-ghost use Rattle.std.specs.Prelude.{◌≡◌, ◌≢◌, ◌&&◌, not, [], Err, None, Ok, false, IfErr, IfOk, map, option_map, unwrap_or};
+ghost use Rattle.std.specs.Prelude.{◌≡◌, ◌≢◌, ◌&&◌, ◌++◌, not, [], ℕ, List, Err, None, Ok, false, IfErr, IfOk, map, option_map, unwrap_or};
 ghost use Rattle.inc_args.specs.Views.{seen_limits, seen_question};
-ghost use Rattle.inc_inputs.specs.Ends.{are_ends};
+ghost use Rattle.inc_inputs.specs.Ends.{are_ends, asked_ends};
+ghost use Rattle.inc_inputs.specs.HeaderNames.{header_notes};
 ghost use Rattle.inc_inputs.specs.Inputs.{listed};
-ghost use Rattle.inc_cli.specs.Outputs.{IsRun, ended};
-ghost use Rattle.inc_cli.specs.Questions.{IsAnswered, IsPrinted, IsPromised, Prints, certificate_of, has_headers};
+ghost use Rattle.inc_cli.specs.Commands.{certificate_of, has_headers, headers_of};
+ghost use Rattle.inc_cli.specs.Outputs.{ended};
+ghost use Rattle.inc_cli.specs.Questions.{IsAnswered, IsAsked, IsKnown, Known, Prints};
 ghost use Rattle.inc_inputs.specs.Reports.{out_of_memory, report_of};
-ghost use Rattle.inc_cli.specs.Runs.{asked_by, asked_named, asked_of, headers_if};
+ghost use Rattle.inc_cli.specs.Runs.{IsUnplaced, asked_by, asked_found, asked_named, asked_of};
+ghost use Rattle.inc_inputs.specs.Places.{places_of};
 ghost use Rattle.inc_inputs.specs.ProjectLists.{paths_in};
 ghost use Rattle.inc_inputs.specs.IncludePath.{include_path};
+ghost use Rattle.inc_inputs.specs.Steps.{next_of};
 ghost use Rattle.inc_inputs.specs.Texts.{AreCosts};
-ghost use Rattle.inc_cli.specs.Views.{asked_in, output_of, seen_command, seen_end, texts_of};
+ghost use Rattle.inc_inputs.specs.Views.{end_paths_in, places_in, project_in, seen_texts};
+ghost use Rattle.inc_cli.specs.Views.{asked_in, output_of, seen_command, seen_end};
 ghost use Rattle.inc_report.specs.Questions.{FailsAt};
 ghost use Rattle.inc_report.specs.Writing.{is_of_certificate};
 
@@ -20,9 +25,9 @@ use crate::runs::Setup;
 use inc_args::{LimitArgs, QuestionArgs};
 use inc_graph::{Cost, Mark};
 use inc_inputs::{
-    Failure, Hindrance, Inputs, ListedFiles, Places, Texts, are_ends, are_twice, asked_ends,
-    asked_places, bytes_of_words, costs_of, include_path, list_paths, listed_project,
-    names_failure, path_end_in, read_texts,
+    BuildProject, EndPaths, Failure, Hindrance, Inputs, ListedFiles, Places, Texts, are_ends,
+    are_twice, asked_ends, asked_places, bytes_of_words, costs_of, find_question, include_path,
+    list_paths, listed_project, names_failure, path_end_in, read_texts, read_texts_beside,
 };
 use inc_lookup::{NamedDir, Project};
 use inc_report::{
@@ -30,7 +35,8 @@ use inc_report::{
     run_named, run_patch, run_who, run_why,
 };
 use inc_text::ByteSink;
-use std::alloc::Global;
+use std::alloc::{AllocError, Global};
+use std::mem::replace;
 
 /// What is asked about sources and headers.
 #[derive(Clone, Copy)]
@@ -77,13 +83,21 @@ impl<'a> Command<'a> {
     /// The paths of the headers, where it is about some.
     fn headers<'p>(self, to: &'p [&'p [u8]]) -> Option<&'p [&'p [u8]]>
         ensures { option_map (λ ps. map (λ p. p.now) ps.now) result
-            ≡ headers_if (has_headers (seen_command self.entry)) (map (λ p. p.now) to.entry.now) }
+            ≡ headers_of (seen_command self.entry) (map (λ p. p.now) to.entry.now) }
     {
         match self {
             Command::Graph => None,
             _ => Some(to),
         }
     }
+}
+
+/// What words ask about sources and headers, and with which limits.
+#[derive(Clone, Copy)]
+struct Asking<'a> {
+    command: Command<'a>,
+    question: &'a QuestionArgs<'a>,
+    limits: &'a LimitArgs<'a>,
 }
 
 /// What the texts and the words of a question hold.
@@ -108,27 +122,26 @@ pub(crate) fn ask<I: Inputs, O: ByteSink>(
     out: O,
 ) -> (Result<Answer, Failure>, O)
     requires { O.has_failed out ≡ false }
-    ensures printed { seen_end result.0 ≢ Err out_of_memory →
-        IsRun (asked_of I.gives setup.now.language (has_headers (seen_command command.entry)) (seen_question question.now) (seen_limits limits.now) (certificate_of (seen_command command.entry)))
-        (IsAnswered I.gives (IsPrinted I.gives (record { opens = I.opens; left = I.Stream.left }) (seen_command command.entry)) (seen_command command.entry)
-        (seen_question question.now))
-        inputs (output_of (O.written out) (O.written result.1) (O.has_failed result.1)) (seen_end result.0) }
-    ensures promised { seen_end result.0 ≢ Err out_of_memory →
-        IsRun (asked_of I.gives setup.now.language (has_headers (seen_command command.entry)) (seen_question question.now) (seen_limits limits.now) (certificate_of (seen_command command.entry)))
-        (IsAnswered I.gives (IsPromised I.gives (record { opens = I.opens; left = I.Stream.left }) (seen_command command.entry)) (seen_command command.entry)
-        (seen_question question.now))
-        inputs (output_of (O.written out) (O.written result.1) (O.has_failed result.1)) (seen_end result.0) }
+    ensures { (known : Known) → seen_end result.0 ≢ Err out_of_memory →
+        IsAsked I.gives (record { opens = I.opens; left = I.Stream.left }) (seen_command command.entry)
+        (asked_of I.gives setup.now.language (seen_command command.entry) (seen_question question.now) (seen_limits limits.now))
+        known inputs (output_of (O.written out) (O.written result.1) (O.has_failed result.1)) (seen_end result.0) }
 {
     if lacks_ends(command, question) {
         return (Err(Failure::NoEnds), out);
     }
+    let asking = Asking {
+        command,
+        question,
+        limits,
+    };
     match names_failure(setup.alloc, setup.language, &question.undefined) {
         Some(failure) => (Err(failure), out),
-        None => ask_named(setup, command, question, limits, inputs, out),
+        None => ask_named(setup, asking, inputs, out),
     }
 }
 
-/// Whether a question about headers has no words for them and for sources.
+/// Whether a question about headers lacks words that name sources and headers in one way.
 fn lacks_ends(command: Command<'_>, question: &QuestionArgs<'_>) -> bool
     ensures { result ≡ (has_headers (seen_command command.entry) && not (are_ends (seen_question question.now))) }
 {
@@ -138,36 +151,87 @@ fn lacks_ends(command: Command<'_>, question: &QuestionArgs<'_>) -> bool
 /// The same where the words name sources and headers.
 fn ask_named<I: Inputs, O: ByteSink>(
     setup: &Setup<'_>,
-    command: Command<'_>,
-    question: &QuestionArgs<'_>,
-    limits: &LimitArgs<'_>,
+    asking: Asking<'_>,
     inputs: I,
     out: O,
 ) -> (Result<Answer, Failure>, O)
     requires { O.has_failed out ≡ false }
-    ensures printed { seen_end result.0 ≢ Err out_of_memory →
-        IsRun (asked_named I.gives setup.now.language (has_headers (seen_command command.entry)) (seen_question question.now) (seen_limits limits.now) (certificate_of (seen_command command.entry)))
-        (IsAnswered I.gives (IsPrinted I.gives (record { opens = I.opens; left = I.Stream.left }) (seen_command command.entry)) (seen_command command.entry)
-        (seen_question question.now))
-        inputs (output_of (O.written out) (O.written result.1) (O.has_failed result.1)) (seen_end result.0) }
-    ensures promised { seen_end result.0 ≢ Err out_of_memory →
-        IsRun (asked_named I.gives setup.now.language (has_headers (seen_command command.entry)) (seen_question question.now) (seen_limits limits.now) (certificate_of (seen_command command.entry)))
-        (IsAnswered I.gives (IsPromised I.gives (record { opens = I.opens; left = I.Stream.left }) (seen_command command.entry)) (seen_command command.entry)
-        (seen_question question.now))
-        inputs (output_of (O.written out) (O.written result.1) (O.has_failed result.1)) (seen_end result.0) }
+    ensures { (known : Known) → seen_end result.0 ≢ Err out_of_memory →
+        IsAsked I.gives (record { opens = I.opens; left = I.Stream.left }) (seen_command asking.entry.command)
+        (asked_named I.gives setup.now.language (seen_command asking.entry.command) (seen_question asking.entry.question.now) (seen_limits asking.entry.limits.now))
+        known inputs (output_of (O.written out) (O.written result.1) (O.has_failed result.1)) (seen_end result.0) }
 {
     let names = [
-        question.files.list,
-        question.without,
-        limits.fixed,
-        limits.costs,
-        command.certificate(),
+        asking.question.files.list,
+        asking.question.without,
+        asking.limits.fixed,
+        asking.limits.costs,
+        asking.command.certificate(),
     ];
     if are_twice(&names) {
         return (Err(Failure::InputTwice), out);
     }
     let mut inputs = inputs;
-    match read_texts(setup.alloc, &mut inputs, question, limits) {
+    match find_question(setup.alloc, setup.seed, &mut inputs, asking.question) {
+        Ok(Some(found)) => ask_found(setup, asking, found, inputs, out),
+        Ok(None) => {
+            let texts = read_texts(setup.alloc, &mut inputs, asking.question, asking.limits);
+            let notes = Vec::new(setup.alloc);
+            ask_read(setup, asking, texts, notes, inputs, out)
+        }
+        Err(failure) => (Err(failure), out),
+    }
+}
+
+/// The same of the project of a build, with its words in place of those of the question.
+fn ask_found<I: Inputs, O: ByteSink>(
+    setup: &Setup<'_>,
+    asking: Asking<'_>,
+    found: BuildProject,
+    inputs: I,
+    out: O,
+) -> (Result<Answer, Failure>, O)
+    requires { O.has_failed out ≡ false }
+    ensures { (known : Known) → seen_end result.0 ≢ Err out_of_memory →
+        IsAsked I.gives (record { opens = I.opens; left = I.Stream.left }) (seen_command asking.entry.command)
+        (asked_found I.gives setup.now.language (seen_command asking.entry.command) (seen_question asking.entry.question.now) (seen_limits asking.entry.limits.now) (project_in found))
+        known inputs (output_of (O.written out) (O.written result.1) (O.has_failed result.1)) (seen_end result.0) }
+{
+    let mut inputs = inputs;
+    let mut found = found;
+    let alloc = setup.alloc;
+    let list = replace(&mut found.list, Vec::new(alloc));
+    let notes = replace(&mut found.notes, Vec::new(alloc));
+    let question = match found.question(alloc, asking.question) {
+        Ok(question) => question,
+        Err(failure) => return (Err(failure), out),
+    };
+    let asking = Asking {
+        command: asking.command,
+        question: &question,
+        limits: asking.limits,
+    };
+    let texts = read_texts_beside(alloc, &mut inputs, list, &question, asking.limits);
+    ask_read(setup, asking, texts, notes, inputs, out)
+}
+
+/// The same of texts that were read, or not, beside these notes.
+fn ask_read<I: Inputs, O: ByteSink>(
+    setup: &Setup<'_>,
+    asking: Asking<'_>,
+    texts: Result<Texts, Failure>,
+    notes: Vec<u8>,
+    inputs: I,
+    out: O,
+) -> (Result<Answer, Failure>, O)
+    requires { O.has_failed out ≡ false }
+    ensures { (known : Known) → seen_end result.0 ≢ Err out_of_memory →
+        IsAsked I.gives (record { opens = I.opens; left = I.Stream.left }) (seen_command asking.entry.command)
+        (next_of (λ t. asked_by setup.now.language (seen_command asking.entry.command) (seen_question asking.entry.question.now) (seen_limits asking.entry.limits.now) notes.items t)
+        (seen_texts texts))
+        known inputs (output_of (O.written out) (O.written result.1) (O.has_failed result.1)) (seen_end result.0) }
+{
+    match texts {
         Ok(texts) => {
             let Texts {
                 list,
@@ -176,54 +240,54 @@ fn ask_named<I: Inputs, O: ByteSink>(
                 costs,
             } = texts;
             ask_texts(
-                setup, command, question, limits, &list, &costs, fixed, without, inputs, out,
+                setup, asking, &list, &costs, without, fixed, notes, inputs, out,
             )
         }
         Err(failure) => (Err(failure), out),
     }
 }
 
-/// The same once the texts are read.
+/// The same of texts: the list and the costs, and the directives that two others mark.
 fn ask_texts<'t, I: Inputs, O: ByteSink>(
     setup: &Setup<'_>,
-    command: Command<'_>,
-    question: &'t QuestionArgs<'t>,
-    limits: &'t LimitArgs<'t>,
+    asking: Asking<'t>,
     list: &'t [u8],
     costs: &'t [u8],
-    fixed: Vec<Mark>,
     without: Vec<Mark>,
+    fixed: Vec<Mark>,
+    notes: Vec<u8>,
     inputs: I,
     out: O,
 ) -> (Result<Answer, Failure>, O)
     requires { O.has_failed out ≡ false }
-    ensures printed { seen_end result.0 ≢ Err out_of_memory →
-        IsRun (asked_by setup.now.language (has_headers (seen_command command.entry)) (seen_question question.now) (seen_limits limits.now) (texts_of list.now fixed.items without.items costs.now))
-        (IsAnswered I.gives (IsPrinted I.gives (record { opens = I.opens; left = I.Stream.left }) (seen_command command.entry)) (seen_command command.entry)
-        (seen_question question.now))
-        inputs (output_of (O.written out) (O.written result.1) (O.has_failed result.1)) (seen_end result.0) }
-    ensures promised { seen_end result.0 ≢ Err out_of_memory →
-        IsRun (asked_by setup.now.language (has_headers (seen_command command.entry)) (seen_question question.now) (seen_limits limits.now) (texts_of list.now fixed.items without.items costs.now))
-        (IsAnswered I.gives (IsPromised I.gives (record { opens = I.opens; left = I.Stream.left }) (seen_command command.entry)) (seen_command command.entry)
-        (seen_question question.now))
-        inputs (output_of (O.written out) (O.written result.1) (O.has_failed result.1)) (seen_end result.0) }
+    ensures { (known : Known) → seen_end result.0 ≢ Err out_of_memory →
+        IsAsked I.gives (record { opens = I.opens; left = I.Stream.left }) (seen_command asking.entry.command)
+        (asked_by setup.now.language (seen_command asking.entry.command) (seen_question asking.entry.question.now) (seen_limits asking.entry.limits.now) notes.items
+        (record { list = list.now; fixed = fixed.items; without = without.items; costs = costs.now }))
+        known inputs (output_of (O.written out) (O.written result.1) (O.has_failed result.1)) (seen_end result.0) }
 {
+    let alloc = setup.alloc;
+    let Asking {
+        command,
+        question,
+        limits,
+    } = asking;
     let opened = match open_texts(setup, question, limits, list, costs) {
         Ok(opened) => opened,
         Err(failure) => return (Err(failure), out),
     };
     let paths = opened.paths.as_slice();
-    let project = match listed_project(setup.alloc, setup.seed, paths, &opened.dirs) {
+    let project = match listed_project(alloc, setup.seed, paths, &opened.dirs) {
         Ok(project) => project,
         Err(failure) => return (Err(failure), out),
     };
-    let ends = match asked_ends(setup.alloc, &project, &*question) {
-        Ok(ends) => ends,
+    let placed = match place_words(alloc, &project, &*question, &*limits, without, fixed) {
+        Ok(placed) => placed,
         Err(failure) => return (Err(failure), out),
     };
-    let places = match asked_places(setup.alloc, &project, &*question, &*limits, without, fixed) {
-        Ok(places) => places,
-        Err(failure) => return (Err(failure), out),
+    let Placed { ends, places } = placed;
+    let Ok(notes) = joined(notes, &ends.notes) else {
+        return (Err(Failure::NoMemory), out);
     };
     let Places {
         without,
@@ -242,19 +306,78 @@ fn ask_texts<'t, I: Inputs, O: ByteSink>(
         kept: &kept,
         costs: &opened.costs,
     };
+    answer_beside(
+        setup, command, &project, &asked, &limits, paths, notes, inputs, out,
+    )
+}
+
+/// Answers a question of a project whose files have these paths, beside these notes.
+fn answer_beside<I: Inputs, O: ByteSink>(
+    setup: &Setup<'_>,
+    command: Command<'_>,
+    project: &Project<'_>,
+    question: &Question<'_>,
+    limits: &Limits<'_>,
+    paths: &[&[u8]],
+    notes: Vec<u8>,
+    inputs: I,
+    out: O,
+) -> (Result<Answer, Failure>, O)
+    requires { O.has_failed out ≡ false }
+    ensures { (known : Known) → seen_end result.0 ≢ Err out_of_memory →
+        let command = seen_command command.entry in
+        IsAnswered I.gives (IsKnown known I.gives (record { opens = I.opens; left = I.Stream.left }) command) command
+        (asked_in (map (λ p. p.now) paths.now) project.now question.now limits.now notes.items)
+        inputs (output_of (O.written out) (O.written result.1) (O.has_failed result.1)) (seen_end result.0) }
+{
     let files = ListedFiles { inputs, paths };
-    let (ended, out) = answer(setup.alloc, command, &project, &asked, &limits, files, out);
+    let (ended, out) = answer(setup.alloc, command, project, question, limits, files, out);
     let certificate = command.certificate().unwrap_or("");
     let hindrance = setup.hindrance.get();
-    let told = end_of(
-        setup.alloc,
-        ended,
-        ends.notes,
-        paths,
-        certificate,
-        hindrance,
-    );
+    let told = end_of(setup.alloc, ended, notes, paths, certificate, hindrance);
     (told, out)
+}
+
+/// Notes with more of them behind.
+fn joined(notes: Vec<u8>, more: &[u8]) -> Result<Vec<u8>, AllocError>
+    ensures { IfOk result (λ all. all.items ≡ notes.items ++ more.now) }
+{
+    let mut all = notes;
+    all.extend_from_slice(more)?;
+    Ok(all)
+}
+
+/// Between which files of a project a question is asked, and which directives limit it.
+#[derive(Drop)]
+struct Placed<'p> {
+    ends: EndPaths<'p>,
+    places: Places,
+}
+
+/// Both by the words of a question, and by the marks of its texts.
+fn place_words<'p>(
+    alloc: Global,
+    project: &'p Project<'_>,
+    question: &QuestionArgs<'p>,
+    limits: &LimitArgs<'p>,
+    without: Vec<Mark>,
+    fixed: Vec<Mark>,
+) -> Result<Placed<'p>, Failure>
+    ensures ends { IfOk result (λ p. asked_ends project.now (seen_question question.now) ≡ Ok (end_paths_in p.ends)) }
+    ensures places { IfOk result (λ p. places_of project.now (seen_question question.now) (seen_limits limits.now) without.items fixed.items
+        ≡ Ok (places_in p.places)) }
+    ensures notes { IfOk result (λ p. p.ends.notes.items ≡ header_notes project.now (seen_question question.now)) }
+    ensures fault { IfErr result (λ f. report_of f ≢ out_of_memory → IsUnplaced project.now (seen_question question.now) (seen_limits limits.now)
+        without.items fixed.items (report_of f)) }
+{
+    let ends = match asked_ends(alloc, project, question) {
+        Ok(ends) => ends,
+        Err(failure) => return Err(failure),
+    };
+    match asked_places(alloc, project, question, limits, without, fixed) {
+        Ok(places) => Ok(Placed { ends, places }),
+        Err(failure) => Err(failure),
+    }
 }
 
 /// What the texts of a question hold.
@@ -297,17 +420,12 @@ fn answer<I: Inputs, O: ByteSink>(
     out: O,
 ) -> (Result<End, RunFault>, O)
     requires { O.has_failed out ≡ false }
-    ensures printed { Prints
-        (λ new p. IsPrinted I.gives (record { opens = I.opens; left = I.Stream.left }) (seen_command command.entry)
-        (asked_in (map (λ p. p.now) files.entry.paths.now) project.now question.now limits.now) files.entry.inputs new p)
+    ensures printed { (known : Known) (notes : List ℕ) → Prints
+        (λ new p. IsKnown known I.gives (record { opens = I.opens; left = I.Stream.left }) (seen_command command.entry)
+        (asked_in (map (λ p. p.now) files.entry.paths.now) project.now question.now limits.now notes) files.entry.inputs new p)
         (λ new. FailsAt (listed I.gives (map (λ p. p.now) files.entry.paths.now)) files.entry.inputs new project.now question.now)
         (output_of (O.written out) (O.written result.1) (O.has_failed result.1)) result.0 }
     ensures certificate { certificate_of (seen_command command.entry) ≡ None → IfErr result.0 (λ f. is_of_certificate f ≡ false) }
-    ensures promised { Prints
-        (λ new p. IsPromised I.gives (record { opens = I.opens; left = I.Stream.left }) (seen_command command.entry)
-        (asked_in (map (λ p. p.now) files.entry.paths.now) project.now question.now limits.now) files.entry.inputs new p)
-        (λ new. FailsAt (listed I.gives (map (λ p. p.now) files.entry.paths.now)) files.entry.inputs new project.now question.now)
-        (output_of (O.written out) (O.written result.1) (O.has_failed result.1)) result.0 }
 {
     let mut files = files;
     match command {

@@ -10,6 +10,10 @@ pub data Input : Type 0 where
   ListedAt : (path : List ℕ) → Input
   -- the paths of the files of C below a folder, each ended by NUL
   FilesBelow : (folder : List ℕ) → Input
+  -- a file whose length memory alone bounds
+  WholeAt : (path : List ℕ) → Input
+  -- the absolute path of the folder of the run
+  Here : Input
 
 -- what a word names
 abbrev pub named : List ℕ → Input

@@ -1,3 +1,10 @@
+pub mod BuildFolders
+pub mod BuildMacros
+pub mod BuildNotes
+pub mod BuildPaths
+pub mod BuildProjects
+pub mod BuildReports
+pub mod BuildSteps
 pub mod Defines
 pub mod Ends
 pub mod HeaderNames

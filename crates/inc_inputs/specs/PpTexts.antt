@@ -38,10 +38,13 @@ pub record PpTexts : Type 0 where
   pub defines : List (List ℕ)
   pub without : List Mark
 
-abbrev pub pp_texts : {S : Type 0} → Gives S → Language → Preprocessing → Step S PpTexts
-pp_texts gives language p =
-    then (list_of gives p.files) (λ list.
+-- where the list of files is known
+abbrev pub pp_texts_beside : {S : Type 0} → Gives S → Language → (list : List ℕ) → Preprocessing → Step S PpTexts
+pp_texts_beside gives language list p =
     then (defined_by gives language true p.compiler) (λ compiler.
     then (defined_by gives language false p.defines) (λ defines.
     then (marks_of gives p.without) (λ without.
-    comes_to (Ok (record { list = list; compiler = compiler; defines = defines.words; without = without }))))))
+    comes_to (Ok (record { list = list; compiler = compiler; defines = defines.words; without = without })))))
+
+abbrev pub pp_texts : {S : Type 0} → Gives S → Language → Preprocessing → Step S PpTexts
+pp_texts gives language p = then (list_of gives p.files) (λ list. pp_texts_beside gives language list p)

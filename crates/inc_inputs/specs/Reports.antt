@@ -122,8 +122,11 @@ several_headers word first second =
 abbrev pub no_source_left : Report
 no_source_left = record { message = codes "each file of --from is one of --to"; status = 4 }
 
+abbrev pub not_utf8 : Report
+not_utf8 = record { message = codes "an argument is not UTF-8"; status = 2 }
+
 abbrev pub report_of : Failure → Report
-report_of failure.NotUtf8 = record { message = codes "an argument is not UTF-8"; status = 2 }
+report_of failure.NotUtf8 = not_utf8
 report_of (failure.CannotRead path) = cannot_read path.items
 report_of failure.CannotWrite = cannot_write
 report_of (failure.CannotWriteFile name) = cannot_write_file name.items
@@ -145,6 +148,7 @@ report_of failure.NoHeaders = no_headers
 report_of (failure.BadGlob text) = record { message = text.items; status = 2 }
 report_of (failure.NoLine text) = record { message = text.items; status = 2 }
 report_of (failure.NotUndefined text) = record { message = text.items; status = 2 }
+report_of (failure.Build text) = record { message = text.items; status = 2 }
 report_of (failure.FitsNone text) = record { message = text.items; status = 4 }
 report_of (failure.SeveralHeaders text) = record { message = codes "several files end in " ++ text.items; status = 4 }
 report_of failure.NoSourceLeft = no_source_left

@@ -64,13 +64,16 @@ pub record Texts : Type 0 where
   -- that of the costs, each line ended by LF alone
   pub costs : List ℕ
 
-abbrev pub texts_of : {S : Type 0} → Gives S → Question → Limits → Step S Texts
-texts_of gives q l =
-    then (list_of gives q.files) (λ list.
+-- where the list of files is known
+abbrev pub texts_beside : {S : Type 0} → Gives S → (list : List ℕ) → Question → Limits → Step S Texts
+texts_beside gives list q l =
     then (marks_of gives l.fixed) (λ fixed.
     then (marks_of gives q.without) (λ without.
     then (reads_if gives l.costs) (λ costs.
-    comes_to (Ok (record { list = list; fixed = fixed; without = without; costs = whole_lines costs }))))))
+    comes_to (Ok (record { list = list; fixed = fixed; without = without; costs = whole_lines costs })))))
+
+abbrev pub texts_of : {S : Type 0} → Gives S → Question → Limits → Step S Texts
+texts_of gives q l = then (list_of gives q.files) (λ list. texts_beside gives list q l)
 
 abbrev pub layout_or : (written : List (List ℕ)) → Result Layout ProjectFault → Result Layout Report
 layout_or written (Ok layout) = Ok layout

@@ -1,14 +1,28 @@
 -- What functions that read lists give, as the definitions see it.
-use Rattle.std.specs.Prelude.{ℕ, Bool, List, Result, Ok, Err, map}
+use Rattle.std.specs.Prelude.{ℕ, Bool, List, Option, Result, Ok, Err, if◌then◌else◌, map, option_map}
 use Rattle.std.specs.Borrow.{Bor}
 use Rattle.std.specs.Global.{Vec}
 use Rattle.inc_graph.specs.Marks.{Mark}
 use Rattle.inc_lookup.specs.Projects.{Layout}
+use Rattle.inc_inputs.specs.BuildNotes as notes
+use Rattle.inc_inputs.specs.BuildProjects.{Found, macro_word}
+use Rattle.inc_inputs.specs.BuildProjects as builds
 use Rattle.inc_inputs.specs.Ends as ends
 use Rattle.inc_inputs.specs.Places as places
 use Rattle.inc_inputs.specs.PpTexts as pp
 use Rattle.inc_inputs.specs.Reports.{Report, report_of}
 use Rattle.inc_inputs.specs.Texts as texts
+use Rattle.serde_json.specs.View.{view}
+use Rattle.inc_build.specs.Views.{seen_build, seen_entry}
+use Rattle.inc_build.specs.declared.compiler_words.Kind.{Kind}
+use Rattle.inc_inputs.specs.declared.build_macros.MacroWord.{MacroWord}
+use Rattle.inc_inputs.specs.declared.build_grounds.Database.{Database}
+use Rattle.inc_inputs.specs.declared.build_grounds.Ground.{Ground}
+use Rattle.inc_inputs.specs.declared.build_choices.BuildWords.{BuildWords}
+use Rattle.inc_inputs.specs.declared.build_choices.Choice.{Choice}
+use Rattle.inc_inputs.specs.declared.build_projects.BuildProject.{BuildProject}
+use Rattle.inc_inputs.specs.declared.build_projects.Dirs.{Dirs}
+use Rattle.inc_inputs.specs.declared.build_texts.Notes.{Notes}
 use Rattle.inc_inputs.specs.declared.ends.EndPaths.{EndPaths}
 use Rattle.inc_inputs.specs.declared.failures.Failure.{Failure}
 use Rattle.inc_inputs.specs.declared.places.Places.{Places}
@@ -41,6 +55,75 @@ places_in p = record { without = p.without.items; fixed = p.fixed.items; kept = 
 
 abbrev pub seen_places : Result Places Failure → Result places.Places Report
 seen_places result = seen places_in result
+
+-- a word of an entry for a macro
+abbrev pub macro_of : MacroWord → Kind × List ℕ
+macro_of m = macro_word m.defines m.text.items
+
+abbrev pub database_in : Database → builds.Database
+database_in d = record { name = d.name.items; value = view d.value }
+
+abbrev pub seen_database : Result Database Failure → Result builds.Database Report
+seen_database result = seen database_in result
+
+abbrev pub ground_in : Ground → builds.Ground
+ground_in g = record {
+  here = g.here.items;
+  name = g.name.now;
+  entries = map seen_entry g.entries.items;
+  build = seen_build g.build;
+  root = g.root.items;
+  is_relative = g.is_relative;
+}
+
+abbrev pub seen_ground : Result Ground Failure → Result builds.Ground Report
+seen_ground result = seen ground_in result
+
+-- files by their paths
+abbrev pub seen_list : Result (List (List ℕ)) Failure → Result (List (List ℕ)) Report
+seen_list result = seen (λ paths. paths) result
+
+abbrev pub notes_in : Notes → notes.Kept
+notes_in n = record { text = n.text.items; count = n.count }
+
+abbrev pub words_in : BuildWords → builds.Words
+words_in w = record {
+  sources = map (λ s. s.now) w.sources.items;
+  headers = map (λ h. h.now) w.headers.items;
+  has_globs = w.has_globs;
+  has_macros = w.has_macros;
+}
+
+abbrev pub chosen_in : Choice → builds.Chosen
+chosen_in c = record { sources = map (λ s. s.items) c.sources.items; uses = c.uses.items; has_all = c.has_all; absent = c.absent }
+
+abbrev pub seen_chosen : Result Choice Failure → Result builds.Chosen Report
+seen_chosen result = seen chosen_in result
+
+abbrev pub dirs_in : Dirs → builds.Dirs
+dirs_in d = record { dirs = map (λ d. d.items) d.dirs.items; system = map (λ d. d.items) d.system.items; last = map (λ d. d.items) d.last.items }
+
+-- whether something is refused
+abbrev pub seen_unit : {A : Type 0} → Result A Failure → Result (Unit {0}) Report
+seen_unit result = seen (λ a. tt) result
+
+abbrev pub project_in : BuildProject → Found
+project_in b = record {
+  list = b.list.items;
+  dirs = (dirs_in b.dirs).dirs;
+  system = (dirs_in b.dirs).system;
+  last = (dirs_in b.dirs).last;
+  sources = map (λ s. s.items) b.sources.items;
+  headers = map (λ h. h.items) b.headers.items;
+  macros = map macro_of b.macros.items;
+  notes = b.notes.items;
+}
+
+abbrev pub seen_found : Result BuildProject Failure → Result Found Report
+seen_found result = seen project_in result
+
+abbrev pub seen_project : Result (Option BuildProject) Failure → Result (Option Found) Report
+seen_project result = seen (λ found. option_map project_in found) result
 
 -- a path
 abbrev pub seen_path : Result (Bor (List ℕ)) Failure → Result (List ℕ) Report

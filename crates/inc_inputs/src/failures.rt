@@ -83,6 +83,8 @@ pub enum Failure {
     FitsNone(Vec<u8>),
     /// Several paths end in a word for a header: the word, and two of them.
     SeveralHeaders(Vec<u8>),
+    /// A compilation database is none, or does not answer a question: its path, and why.
+    Build(Vec<u8>),
     /// Each source is a header, too.
     NoSourceLeft,
     /// Memory ran out.
@@ -278,7 +280,7 @@ fn shown(alloc: Global, path: &[u8]) -> Result<Vec<u8>, AllocError>
 }
 
 /// Adds a path as it is shown.
-fn put_shown(text: &mut Vec<u8>, path: &[u8]) -> Result<(), AllocError>
+pub(crate) fn put_shown(text: &mut Vec<u8>, path: &[u8]) -> Result<(), AllocError>
     ensures { OnOk result (text.new.items ≡ text.old.items ++ shown path.now) }
 {
     for byte in path {
@@ -337,6 +339,7 @@ impl Failure {
             Failure::BadGlob(text)
             | Failure::NoLine(text)
             | Failure::NotUndefined(text)
+            | Failure::Build(text)
             | Failure::FitsNone(text) => (b"", text),
             Failure::SeveralHeaders(text) => (b"several files end in ", text),
             Failure::NoSourceLeft => (b"each file of --from is one of --to", b""),
@@ -362,7 +365,8 @@ impl Failure {
             | Failure::NoHeaders
             | Failure::BadGlob(_)
             | Failure::NoLine(_)
-            | Failure::NotUndefined(_) => 2,
+            | Failure::NotUndefined(_)
+            | Failure::Build(_) => 2,
             Failure::CannotRead(_) | Failure::CannotWrite | Failure::CannotWriteFile(_) => 3,
             Failure::FileTooLong(_)
             | Failure::TooManyFiles

@@ -3,7 +3,7 @@ ghost use Rattle.std.specs.Prelude.{◌≡◌, ◌≤◌, ℕ, Bool, List, Optio
 ghost use Rattle.inc_text.specs.declared.devices.TheConstants.{LONGEST_FILE};
 ghost use Rattle.inc_text.specs.declared.devices.ReadFault.{ReadFault};
 ghost use Rattle.inc_lookup.specs.Views.{seen_answer};
-ghost use Rattle.inc_inputs.specs.Inputs.{FileAt, FilesBelow, Input, ListedAt, StandardInput, listed, named};
+ghost use Rattle.inc_inputs.specs.Inputs.{FileAt, FilesBelow, Here, Input, ListedAt, WholeAt, StandardInput, listed, named};
 
 use inc_lookup::{FileId, Sources};
 use inc_text::{ByteSource, DeviceFault, ReadFault};
@@ -47,6 +47,15 @@ pub trait Inputs: Drop {
     /// The paths of the files of C below a folder, each ended by NUL. Which these are the inputs say.
     fn list_files(&mut self, alloc: Global, folder: &str) -> Result<Vec<u8>, ReadFault>
         ensures { gives self.old (FilesBelow folder.now) (seen_answer result) self.new };
+
+    /// The bytes of the file at a path that a word is, however many these are, so that memory alone bounds them: a
+    /// compilation database may be longer than source files.
+    fn read_whole(&mut self, alloc: Global, path: &[u8]) -> Result<Vec<u8>, ReadFault>
+        ensures { gives self.old (WholeAt path.now) (seen_answer result) self.new };
+
+    /// The absolute path of the folder of the run.
+    fn run_folder(&mut self, alloc: Global) -> Result<Vec<u8>, ReadFault>
+        ensures { gives self.old Here (seen_answer result) self.new };
 
     /// What a word names, to be read piece by piece; `-` is standard input. Nothing is read yet.
     fn open(&self, alloc: Global, name: &str) -> Result<Self::Stream, AllocError>

@@ -2,6 +2,14 @@
 //! what it reports where that fails.
 #![tactic(auto)]
 
+mod build_choices;
+mod build_entries;
+mod build_files;
+mod build_grounds;
+mod build_macros;
+mod build_paths;
+mod build_projects;
+mod build_texts;
 mod defines;
 mod ends;
 mod failures;
@@ -19,6 +27,8 @@ mod sides;
 mod texts;
 mod undefined_names;
 
+pub use build_macros::{MacroWord, with_macros};
+pub use build_projects::{BuildProject, find_preprocessing, find_question};
 pub use defines::read_defines;
 pub use ends::{EndPaths, are_ends, asked_ends};
 pub use failures::{Failure, Hindrance, read_failure, unread, written};
@@ -26,8 +36,8 @@ pub use file_lists::{PathEnd, list_paths};
 pub use inputs::{Inputs, ListedFiles};
 pub use outputs::{are_no_files, are_one, write_if};
 pub use places::{Places, asked_places};
-pub use pp_texts::{Defined, PpTexts, read_pp_texts};
+pub use pp_texts::{Defined, PpTexts, read_pp_texts, read_pp_texts_beside};
 pub use project_lists::path_end_in;
 pub use projects::{bytes_of, include_path, listed_project};
-pub use texts::{Texts, are_twice, costs_of, read_texts};
+pub use texts::{Texts, are_twice, costs_of, read_texts, read_texts_beside};
 pub use undefined_names::{bytes_of_words, names_failure};

@@ -2,7 +2,7 @@
 ghost use Rattle.std.specs.Prelude.{◌≡◌, IfOk, map, option_map};
 ghost use Rattle.inc_args.specs.Views.{seen_pp};
 ghost use Rattle.inc_inputs.specs.Defines.{described_dirs};
-ghost use Rattle.inc_inputs.specs.PpTexts.{defined_by, pp_texts};
+ghost use Rattle.inc_inputs.specs.PpTexts.{defined_by, pp_texts, pp_texts_beside};
 ghost use Rattle.inc_inputs.specs.Steps.{Comes};
 ghost use Rattle.inc_inputs.specs.Views.{seen_defined, seen_pp_texts};
 
@@ -57,6 +57,19 @@ pub fn read_pp_texts<I: Inputs>(
     ensures { Comes (pp_texts I.gives language (seen_pp args.now)) inputs.old (seen_pp_texts result) inputs.new }
 {
     let list = read_list(alloc, inputs, &args.files)?;
+    read_pp_texts_beside(alloc, inputs, language, list, args)
+}
+
+/// The same where the list is known.
+pub fn read_pp_texts_beside<I: Inputs>(
+    alloc: Global,
+    inputs: &mut I,
+    language: Language,
+    list: Vec<u8>,
+    args: &PpArgs<'_>,
+) -> Result<PpTexts, Failure>
+    ensures { Comes (pp_texts_beside I.gives language list.items (seen_pp args.now)) inputs.old (seen_pp_texts result) inputs.new }
+{
     let compiler = read_defined(alloc, inputs, language, true, args.compiler)?;
     let defines = read_defined(alloc, inputs, language, false, args.defines)?.words;
     let without = read_directives(alloc, inputs, args.without)?;

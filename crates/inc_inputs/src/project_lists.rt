@@ -77,7 +77,11 @@ fn list_below<I: Inputs>(
 }
 
 /// The files below a folder.
-fn list_folder<I: Inputs>(alloc: Global, inputs: &mut I, folder: &str) -> Result<Vec<u8>, Failure>
+pub(crate) fn list_folder<I: Inputs>(
+    alloc: Global,
+    inputs: &mut I,
+    folder: &str,
+) -> Result<Vec<u8>, Failure>
     ensures { Comes (reads_as I.gives folder.now (FilesBelow folder.now)) inputs.old (seen_text result) inputs.new }
 {
     match inputs.list_files(alloc, folder) {

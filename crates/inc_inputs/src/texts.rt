@@ -3,7 +3,7 @@ ghost use Rattle.std.specs.Prelude.{◌≡◌, Ok, Err, IfOk, IfErr, map, option
 ghost use Rattle.inc_check.specs.Texts.{IsCostsText, CostsFormat, IsMalformed};
 ghost use Rattle.inc_inputs.specs.MarkLists.{lines_of, marks_in};
 ghost use Rattle.inc_inputs.specs.Reports.{report_of, IsListReport};
-ghost use Rattle.inc_inputs.specs.Texts.{are_twice, marks_of, texts_of};
+ghost use Rattle.inc_inputs.specs.Texts.{are_twice, marks_of, texts_beside, texts_of};
 ghost use Rattle.inc_inputs.specs.Steps.{Comes, reads, reads_if};
 ghost use Rattle.inc_inputs.specs.Views.{seen_marks, seen_text, seen_texts};
 ghost use Rattle.inc_args.specs.Views.{seen_limits, seen_question};
@@ -49,6 +49,20 @@ pub fn read_texts<I: Inputs>(
         inputs.old (seen_texts result) inputs.new }
 {
     let list = read_list(alloc, inputs, &question.files)?;
+    read_texts_beside(alloc, inputs, list, question, limits)
+}
+
+/// The same where the list is known.
+pub fn read_texts_beside<I: Inputs>(
+    alloc: Global,
+    inputs: &mut I,
+    list: Vec<u8>,
+    question: &QuestionArgs<'_>,
+    limits: &LimitArgs<'_>,
+) -> Result<Texts, Failure>
+    ensures { Comes (texts_beside I.gives list.items (seen_question question.now) (seen_limits limits.now))
+        inputs.old (seen_texts result) inputs.new }
+{
     let fixed = read_directives(alloc, inputs, limits.fixed)?;
     let without = read_directives(alloc, inputs, question.without)?;
     let costs = whole_lines(alloc, read_text_if(alloc, inputs, limits.costs)?)?;

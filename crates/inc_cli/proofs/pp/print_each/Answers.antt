@@ -7,13 +7,13 @@ use Rattle.inc_cli.proofs.ListedReadings.{fails_after, holds, paths_of}
 use Rattle.inc_cli.proofs.pp.print_each.Goals as goal
 
 pub returns : goal.returns
-returns g c =
+returns g c notes =
     let gives = g.I.Inputs.gives in
     let old = c.args.files.now in
     let new = c.run_pp-ended.new.sources in
     let layout = c.args.project.now in
     let q = c.args.question.now in
-    let a = pp_asked_in (paths_of old) layout q in
+    let a = pp_asked_in (paths_of old) layout q notes in
     let removed = named_directives layout q.without in
     let out = output_of (g.O.ByteSink.written c.args.out) (g.O.ByteSink.written c.run_pp-ended.result.1) (g.O.ByteSink.has_failed c.run_pp-ended.result.1) in
     record {

@@ -10,12 +10,13 @@ use Rattle.inc_report.specs.NamedHeadline.{NamedHeadline}
 use Rattle.inc_report.specs.NamedText.{IsNamedBy}
 use Rattle.inc_report.specs.WhoText.{IsWhoBy}
 use Rattle.inc_report.specs.WhyText.{IsWhyBy}
+use Rattle.inc_cli.specs.Questions.{Content, Promise}
 use Rattle.inc_cli.proofs.ListedPrints.{of_bytes_all}
 use Rattle.inc_cli.proofs.ListedReadings.{holds, prints, reading}
 use Rattle.inc_cli.proofs.questions.answer.Goals as goal
 
 pub returns-in-Why-clause-printed : goal.returns-in-Why-clause-printed
-returns-in-Why-clause-printed g c =
+returns-in-Why-clause-printed g c Content notes =
     let gives = g.I.Inputs.gives in
     let old = c.args.files in
     let new = c.run_why.new.sources in
@@ -23,9 +24,7 @@ returns-in-Why-clause-printed g c =
     let q = c.args.question.now in
     rw c.in-Why.is (prints gives old new layout q (λ p. HoldsOfGiven (reading gives) old new layout (IsWhyBy q p)) _ _ _
     (λ p h. holds gives old new layout (IsWhyBy q p) h) c.run_why.ensures.written c.run_why.ensures.unread)
-
-pub returns-in-Why-clause-promised : goal.returns-in-Why-clause-promised
-returns-in-Why-clause-promised g c =
+returns-in-Why-clause-printed g c Promise notes =
     let gives = g.I.Inputs.gives in
     let old = c.args.files in
     let new = c.run_why.new.sources in
@@ -35,7 +34,7 @@ returns-in-Why-clause-promised g c =
     (λ p h. tt) c.run_why.ensures.written c.run_why.ensures.unread)
 
 pub returns-in-Who-clause-printed : goal.returns-in-Who-clause-printed
-returns-in-Who-clause-printed g c =
+returns-in-Who-clause-printed g c Content notes =
     let gives = g.I.Inputs.gives in
     let old = c.args.files in
     let new = c.run_who.new.sources in
@@ -44,9 +43,7 @@ returns-in-Who-clause-printed g c =
     let chains = c.in-Who.with_chains in
     rw c.in-Who.is (prints gives old new layout q (λ p. HoldsOfGiven (reading gives) old new layout (IsWhoBy chains q p)) _ _ _
     (λ p h. holds gives old new layout (IsWhoBy chains q p) h) c.run_who.ensures.written c.run_who.ensures.unread)
-
-pub returns-in-Who-clause-promised : goal.returns-in-Who-clause-promised
-returns-in-Who-clause-promised g c =
+returns-in-Who-clause-printed g c Promise notes =
     let gives = g.I.Inputs.gives in
     let old = c.args.files in
     let new = c.run_who.new.sources in
@@ -57,7 +54,7 @@ returns-in-Who-clause-promised g c =
     (λ p h. tt) c.run_who.ensures.written c.run_who.ensures.unread)
 
 pub returns-in-Graph-clause-printed : goal.returns-in-Graph-clause-printed
-returns-in-Graph-clause-printed g c =
+returns-in-Graph-clause-printed g c Content notes =
     let gives = g.I.Inputs.gives in
     let old = c.args.files in
     let new = c.run_graph.new.sources in
@@ -65,9 +62,7 @@ returns-in-Graph-clause-printed g c =
     let q = c.args.question.now in
     rw c.in-Graph.is (prints gives old new layout q (λ p. HoldsOfGiven (reading gives) old new layout (IsGraphBy q p)) _ _ _
     (λ p h. holds gives old new layout (IsGraphBy q p) h) c.run_graph.ensures.written c.run_graph.ensures.unread)
-
-pub returns-in-Graph-clause-promised : goal.returns-in-Graph-clause-promised
-returns-in-Graph-clause-promised g c =
+returns-in-Graph-clause-printed g c Promise notes =
     let gives = g.I.Inputs.gives in
     let old = c.args.files in
     let new = c.run_graph.new.sources in
@@ -77,7 +72,7 @@ returns-in-Graph-clause-promised g c =
     (λ p h. tt) c.run_graph.ensures.written c.run_graph.ensures.unread)
 
 pub returns-in-Cut-clause-printed : goal.returns-in-Cut-clause-printed
-returns-in-Cut-clause-printed g c =
+returns-in-Cut-clause-printed g c Content notes =
     let gives = g.I.Inputs.gives in
     let old = c.args.files in
     let new = c.run_cut.new.sources in
@@ -86,9 +81,7 @@ returns-in-Cut-clause-printed g c =
     let l = c.args.limits.now in
     rw c.in-Cut.is (prints gives old new layout q (λ p. HoldsOfGiven (reading gives) old new layout (IsCutBy q l p)) _ _ _
     (λ p h. holds gives old new layout (IsCutBy q l p) h) c.run_cut.ensures.written c.run_cut.ensures.unread)
-
-pub returns-in-Cut-clause-promised : goal.returns-in-Cut-clause-promised
-returns-in-Cut-clause-promised g c =
+returns-in-Cut-clause-printed g c Promise notes =
     let gives = g.I.Inputs.gives in
     let old = c.args.files in
     let new = c.run_cut.new.sources in
@@ -99,7 +92,7 @@ returns-in-Cut-clause-promised g c =
     (λ p h. holds gives old new layout (λ _ listing. CutHeadline q l p listing) h) c.run_cut.ensures.headline c.run_cut.ensures.unread)
 
 pub returns-in-Blank-clause-printed : goal.returns-in-Blank-clause-printed
-returns-in-Blank-clause-printed g c =
+returns-in-Blank-clause-printed g c Content notes =
     let gives = g.I.Inputs.gives in
     let old = c.args.files in
     let new = c.run_blank-ended.result.1 in
@@ -108,9 +101,7 @@ returns-in-Blank-clause-printed g c =
     let l = c.args.limits.now in
     rw c.in-Blank.is (prints gives old new layout q (λ p. HoldsOfGiven (reading gives) old new layout (IsBlankBy q l p)) _ _ _
     (λ p h. holds gives old new layout (IsBlankBy q l p) h) c.run_blank-ended.ensures.written c.run_blank-ended.ensures.unread)
-
-pub returns-in-Blank-clause-promised : goal.returns-in-Blank-clause-promised
-returns-in-Blank-clause-promised g c =
+returns-in-Blank-clause-printed g c Promise notes =
     let gives = g.I.Inputs.gives in
     let old = c.args.files in
     let new = c.run_blank-ended.result.1 in
@@ -121,7 +112,7 @@ returns-in-Blank-clause-promised g c =
     (λ p h. holds gives old new layout (λ _ listing. BlankHeadline q l p listing) h) c.run_blank-ended.ensures.headline c.run_blank-ended.ensures.unread)
 
 pub returns-in-Patch-clause-printed : goal.returns-in-Patch-clause-printed
-returns-in-Patch-clause-printed g c =
+returns-in-Patch-clause-printed g c Content notes =
     let gives = g.I.Inputs.gives in
     let old = c.args.files in
     let new = c.run_patch-ended.result.1 in
@@ -130,9 +121,7 @@ returns-in-Patch-clause-printed g c =
     let l = c.args.limits.now in
     rw c.in-Patch.is (prints gives old new layout q (λ p. HoldsOfGiven (reading gives) old new layout (IsPatchBy q l p)) _ _ _
     (λ p h. holds gives old new layout (IsPatchBy q l p) h) c.run_patch-ended.ensures.written c.run_patch-ended.ensures.unread)
-
-pub returns-in-Patch-clause-promised : goal.returns-in-Patch-clause-promised
-returns-in-Patch-clause-promised g c =
+returns-in-Patch-clause-printed g c Promise notes =
     let gives = g.I.Inputs.gives in
     let old = c.args.files in
     let new = c.run_patch-ended.result.1 in
@@ -143,7 +132,7 @@ returns-in-Patch-clause-promised g c =
     (λ p h. holds gives old new layout (λ _ listing. PatchHeadline q l p listing) h) c.run_patch-ended.ensures.headline c.run_patch-ended.ensures.unread)
 
 pub returns-in-Named-clause-printed : goal.returns-in-Named-clause-printed
-returns-in-Named-clause-printed g c =
+returns-in-Named-clause-printed g c Content notes =
     let gives = g.I.Inputs.gives in
     let old = c.args.files in
     let new = c.run_named-ended.result.1 in
@@ -153,9 +142,7 @@ returns-in-Named-clause-printed g c =
     let form = c.in-Named.form in
     rw c.in-Named.is (prints gives old new layout q (λ p. HoldsOfGiven (reading gives) old new layout (IsNamedBy form q l p)) _ _ _
     (λ p h. holds gives old new layout (IsNamedBy form q l p) h) c.run_named-ended.ensures.written c.run_named-ended.ensures.unread)
-
-pub returns-in-Named-clause-promised : goal.returns-in-Named-clause-promised
-returns-in-Named-clause-promised g c =
+returns-in-Named-clause-printed g c Promise notes =
     let gives = g.I.Inputs.gives in
     let old = c.args.files in
     let new = c.run_named-ended.result.1 in
@@ -167,7 +154,7 @@ returns-in-Named-clause-promised g c =
     (λ p h. holds gives old new layout (λ _ listing. NamedHeadline form q l p listing) h) c.run_named-ended.ensures.headline c.run_named-ended.ensures.unread)
 
 pub returns-in-Ok-clause-printed : goal.returns-in-Ok-clause-printed
-returns-in-Ok-clause-printed g c =
+returns-in-Ok-clause-printed g c Content notes =
     let gives = g.I.Inputs.gives in
     let old = c.args.files in
     let new = c.run_check.new.sources in
@@ -179,9 +166,7 @@ returns-in-Ok-clause-printed g c =
     rw c.in-Check.is (prints gives old new layout q (λ p. OfBytes left (λ text. HoldsOfGiven (reading gives) old new layout (IsCheckBy q l text p))) _ _ _
     (λ p h. (stream, c.in-Ok.ensures, of_bytes_all left _ _ (λ text h. holds gives old new layout (IsCheckBy q l text p) h) h))
     c.run_check.ensures.written c.run_check.ensures.unread)
-
-pub returns-in-Ok-clause-promised : goal.returns-in-Ok-clause-promised
-returns-in-Ok-clause-promised g c =
+returns-in-Ok-clause-printed g c Promise notes =
     let gives = g.I.Inputs.gives in
     let old = c.args.files in
     let new = c.run_check.new.sources in

@@ -1,82 +1,73 @@
-use Rattle.std.proofs.Common.{◌≡◌, true, false, ap, refl, rules}
+use Rattle.std.proofs.Common.{◌≡◌, ℕ, List, [], None, Ok, Some, true, false, ap, refl, rules, subst}
 use Rattle.std.specs.Io.KnownBytes.{Keeps}
 use Rattle.inc_args.specs.Views.{seen_limits, seen_question}
-use Rattle.inc_cli.specs.Questions.{certificate_of, has_headers}
+use Rattle.inc_cli.specs.Runs.{asked_by, asked_with, list_names}
+use Rattle.inc_cli.specs.Outputs.{IsRun}
+use Rattle.inc_cli.specs.Questions.{IsAnswered, IsKnown}
+use Rattle.inc_cli.specs.Views.{output_of, seen_command, seen_end}
+use Rattle.inc_inputs.specs.BuildProjects.{words_of_question}
+use Rattle.inc_inputs.specs.BuildSteps.{found_if}
 use Rattle.inc_inputs.specs.Reports.{input_twice, report_of}
-use Rattle.inc_cli.specs.Runs.{asked_by, list_names}
+use Rattle.inc_inputs.specs.Steps.{next_of, then}
 use Rattle.inc_inputs.specs.Texts.{are_twice, texts_of}
-use Rattle.inc_inputs.specs.Steps.{then}
-use Rattle.inc_cli.specs.Views.{seen_command}
-use Rattle.inc_inputs.specs.Views.{seen_texts, texts_in}
-use Rattle.inc_cli.proofs.RunLemmas.{run_err, run_lent, run_not, run_then, run_unless}
+use Rattle.inc_inputs.specs.Views.{project_in, seen_project, seen_texts}
+use Rattle.inc_cli.proofs.RunLemmas.{run_err, run_not, run_read, run_then, run_unless}
 use Rattle.inc_cli.proofs.questions.ask_named.Goals as goal
 
-pub returns-then-are_twice-clause-printed : goal.returns-then-are_twice-clause-printed
-returns-then-are_twice-clause-printed g c not =
+pub returns-then-are_twice : goal.returns-then-are_twice
+returns-then-are_twice g c known not =
     let gives = g.I.Inputs.gives in
-    let q = seen_question c.args.question.now in
-    let l = seen_limits c.args.limits.now in
-    let next = asked_by c.args.setup.now.language (has_headers (seen_command c.args.command)) q l in
-    let twice : are_twice (list_names q l (certificate_of (seen_command c.args.command))) ≡ true = search rules in
+    let command = seen_command c.args.asking.command in
+    let q = seen_question c.args.asking.question.now in
+    let l = seen_limits c.args.asking.limits.now in
+    let twice : are_twice (list_names command q l) ≡ true = search rules in
     let keeps : Keeps (g.O.ByteSink.written c.args.out) (g.O.ByteSink.written c.args.out) = search rules in
-    run_not _ input_twice (then (texts_of gives q l) next) _ _ _ _ twice refl keeps
+    run_not _ input_twice (then (found_if gives q.files (words_of_question q)) (asked_with gives c.args.setup.now.language command q l)) _ _ _ _ twice refl keeps
 
-pub returns-in-Ok-clause-printed : goal.returns-in-Ok-clause-printed
-returns-in-Ok-clause-printed g c not =
+pub returns-in-Ok-Some : goal.returns-in-Ok-Some
+returns-in-Ok-Some g c known not =
     let gives = g.I.Inputs.gives in
-    let q = seen_question c.args.question.now in
-    let l = seen_limits c.args.limits.now in
-    let next = asked_by c.args.setup.now.language (has_headers (seen_command c.args.command)) q l in
-    let twice : are_twice (list_names q l (certificate_of (seen_command c.args.command))) ≡ false = search rules in
-    run_unless _ input_twice (then (texts_of gives q l) next) _ _ _ _ twice
-    (run_then (texts_of gives q l) next _ _ c.read_texts.new.inputs _ _ (seen_texts c.read_texts.result) (texts_in c.in-Ok.texts)
-    (ap seen_texts c.in-Ok.is) c.read_texts.ensures
-    (run_lent next _ c.read_texts.new.inputs _ _ c.in-Ok.texts.list.items c.deref.result.now c.in-Ok.texts.fixed.items c.in-Ok.texts.without.items c.in-Ok.texts.costs.items c.deref-in-Ok.result.now (c.ask_texts.ensures.printed not)
-    (search rules) (search rules)))
+    let command = seen_command c.args.asking.command in
+    let q = seen_question c.args.asking.question.now in
+    let l = seen_limits c.args.asking.limits.now in
+    let next = asked_with gives c.args.setup.now.language command q l in
+    let once : are_twice (list_names command q l) ≡ false = search rules in
+    let found : seen_project c.find_question.result ≡ Ok (Some (project_in c.in-Ok-Some.found)) = search rules in
+    run_unless _ input_twice (then (found_if gives q.files (words_of_question q)) next) _ _ _ _ once
+    (run_then (found_if gives q.files (words_of_question q)) next _ _ c.find_question.new.inputs _ _ (seen_project c.find_question.result) (Some (project_in c.in-Ok-Some.found))
+    found c.find_question.ensures (c.ask_found.ensures known not))
 
-pub returns-in-Err-clause-printed : goal.returns-in-Err-clause-printed
-returns-in-Err-clause-printed g c not =
+pub returns-in-Ok-None : goal.returns-in-Ok-None
+returns-in-Ok-None g c known not =
     let gives = g.I.Inputs.gives in
-    let q = seen_question c.args.question.now in
-    let l = seen_limits c.args.limits.now in
-    let next = asked_by c.args.setup.now.language (has_headers (seen_command c.args.command)) q l in
-    let twice : are_twice (list_names q l (certificate_of (seen_command c.args.command))) ≡ false = search rules in
+    let command = seen_command c.args.asking.command in
+    let q = seen_question c.args.asking.question.now in
+    let l = seen_limits c.args.asking.limits.now in
+    let language = c.args.setup.now.language in
+    let next = asked_with gives language command q l in
+    let once : are_twice (list_names command q l) ≡ false = search rules in
+    let P = IsAnswered gives (IsKnown known gives (record { opens = g.I.Inputs.opens; left = g.I.Stream.ByteSource.left }) command) command in
+    let out = output_of (g.O.ByteSink.written c.args.out) (g.O.ByteSink.written c.ask_read.result.1) (g.O.ByteSink.has_failed c.ask_read.result.1) in
+    let answer = seen_end c.ask_read.result.0 in
+    let texts = seen_texts c.read_texts-texts.result in
+    let mid = c.read_texts-texts.new.inputs in
+    let asked : IsRun (next_of (asked_by language command q l []) texts) P mid out answer =
+    subst (λ (ns : List ℕ). IsRun (next_of (asked_by language command q l ns) texts) P mid out answer) c.new-notes.ensures.items (c.ask_read.ensures known not) in
+    let none : seen_project c.find_question.result ≡ Ok None = search rules in
+    run_unless _ input_twice (then (found_if gives q.files (words_of_question q)) next) _ _ _ _ once
+    (run_then (found_if gives q.files (words_of_question q)) next _ _ c.find_question.new.inputs _ _ (seen_project c.find_question.result) None
+    none c.find_question.ensures
+    (run_read (texts_of gives q l) (asked_by language command q l []) P _ mid out answer texts c.read_texts-texts.ensures not asked))
+
+pub returns-in-Err : goal.returns-in-Err
+returns-in-Err g c known not =
+    let gives = g.I.Inputs.gives in
+    let command = seen_command c.args.asking.command in
+    let q = seen_question c.args.asking.question.now in
+    let l = seen_limits c.args.asking.limits.now in
+    let next = asked_with gives c.args.setup.now.language command q l in
+    let once : are_twice (list_names command q l) ≡ false = search rules in
     let keeps : Keeps (g.O.ByteSink.written c.args.out) (g.O.ByteSink.written c.args.out) = search rules in
-    run_unless _ input_twice (then (texts_of gives q l) next) _ _ _ _ twice
-    (run_err (texts_of gives q l) next _ _ c.read_texts.new.inputs _ _ (seen_texts c.read_texts.result) (report_of c.in-Err.failure)
-    (ap seen_texts c.in-Err.is) refl c.read_texts.ensures keeps not)
-
-pub returns-then-are_twice-clause-promised : goal.returns-then-are_twice-clause-promised
-returns-then-are_twice-clause-promised g c not =
-    let gives = g.I.Inputs.gives in
-    let q = seen_question c.args.question.now in
-    let l = seen_limits c.args.limits.now in
-    let next = asked_by c.args.setup.now.language (has_headers (seen_command c.args.command)) q l in
-    let twice : are_twice (list_names q l (certificate_of (seen_command c.args.command))) ≡ true = search rules in
-    let keeps : Keeps (g.O.ByteSink.written c.args.out) (g.O.ByteSink.written c.args.out) = search rules in
-    run_not _ input_twice (then (texts_of gives q l) next) _ _ _ _ twice refl keeps
-
-pub returns-in-Ok-clause-promised : goal.returns-in-Ok-clause-promised
-returns-in-Ok-clause-promised g c not =
-    let gives = g.I.Inputs.gives in
-    let q = seen_question c.args.question.now in
-    let l = seen_limits c.args.limits.now in
-    let next = asked_by c.args.setup.now.language (has_headers (seen_command c.args.command)) q l in
-    let twice : are_twice (list_names q l (certificate_of (seen_command c.args.command))) ≡ false = search rules in
-    run_unless _ input_twice (then (texts_of gives q l) next) _ _ _ _ twice
-    (run_then (texts_of gives q l) next _ _ c.read_texts.new.inputs _ _ (seen_texts c.read_texts.result) (texts_in c.in-Ok.texts)
-    (ap seen_texts c.in-Ok.is) c.read_texts.ensures
-    (run_lent next _ c.read_texts.new.inputs _ _ c.in-Ok.texts.list.items c.deref.result.now c.in-Ok.texts.fixed.items c.in-Ok.texts.without.items c.in-Ok.texts.costs.items c.deref-in-Ok.result.now (c.ask_texts.ensures.promised not)
-    (search rules) (search rules)))
-
-pub returns-in-Err-clause-promised : goal.returns-in-Err-clause-promised
-returns-in-Err-clause-promised g c not =
-    let gives = g.I.Inputs.gives in
-    let q = seen_question c.args.question.now in
-    let l = seen_limits c.args.limits.now in
-    let next = asked_by c.args.setup.now.language (has_headers (seen_command c.args.command)) q l in
-    let twice : are_twice (list_names q l (certificate_of (seen_command c.args.command))) ≡ false = search rules in
-    let keeps : Keeps (g.O.ByteSink.written c.args.out) (g.O.ByteSink.written c.args.out) = search rules in
-    run_unless _ input_twice (then (texts_of gives q l) next) _ _ _ _ twice
-    (run_err (texts_of gives q l) next _ _ c.read_texts.new.inputs _ _ (seen_texts c.read_texts.result) (report_of c.in-Err.failure)
-    (ap seen_texts c.in-Err.is) refl c.read_texts.ensures keeps not)
+    run_unless _ input_twice (then (found_if gives q.files (words_of_question q)) next) _ _ _ _ once
+    (run_err (found_if gives q.files (words_of_question q)) next _ _ c.find_question.new.inputs _ _ (seen_project c.find_question.result) (report_of c.in-Err.failure)
+    (ap seen_project c.in-Err.is) refl c.find_question.ensures keeps not)

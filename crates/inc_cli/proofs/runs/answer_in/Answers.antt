@@ -1,10 +1,12 @@
-use Rattle.std.proofs.Common.{Result, subst, sym}
+use Rattle.std.proofs.Common.{◌≡◌, None, Result, rules, subst, sym}
 use Rattle.inc_args.specs.Views.{seen_limits, seen_question, seen_request}
 use Rattle.inc_inputs.specs.Reports.{Report}
 use Rattle.inc_cli.specs.Outputs.{Follows}
-use Rattle.inc_cli.specs.Processes.{IsAnswerTo, IsAsked, IsKept, IsPromiseOf}
-use Rattle.inc_cli.specs.Questions.{Command, Opens}
-use Rattle.inc_cli.specs.Views.{output_of, seen_end}
+use Rattle.inc_cli.specs.Commands.{Command, Graph}
+use Rattle.inc_cli.specs.Processes.{IsAnswerTo, IsAskedBy, IsPromiseOf}
+use Rattle.inc_cli.specs.Questions.{Content, Opens, Promise}
+use Rattle.inc_cli.specs.Runs.{no_limits}
+use Rattle.inc_cli.specs.Views.{output_of, seen_command, seen_end}
 use Rattle.inc_cli.proofs.runs.answer_in.Goals as goal
 
 pub returns-in-Ok-form_of-clause-answered : goal.returns-in-Ok-form_of-clause-answered
@@ -17,8 +19,8 @@ returns-in-Ok-form_of-clause-answered g c not =
     let answer = seen_end c.ask-in-Ok-form_of.result.0 in
     subst (λ r. IsAnswerTo gives g.I.Inputs.puts o language terminal (seen_request r) c.args.inputs out answer) (sym c.in-Cut.is)
     (subst
-    (λ (command : Result Command Report). Follows (λ k. IsAsked gives o language k (seen_question c.in-Cut.question) (seen_limits c.in-Cut.limits)) command c.args.inputs out answer)
-    c.in-Ok-form_of.ensures (c.ask-in-Ok-form_of.ensures.printed not))
+    (λ (command : Result Command Report). Follows (λ k. IsAskedBy Content gives o language k (seen_question c.in-Cut.question) (seen_limits c.in-Cut.limits)) command c.args.inputs out answer)
+    c.in-Ok-form_of.ensures (c.ask-in-Ok-form_of.ensures Content not))
 
 pub returns-in-Ok-form_of-clause-promised : goal.returns-in-Ok-form_of-clause-promised
 returns-in-Ok-form_of-clause-promised g c not =
@@ -30,19 +32,60 @@ returns-in-Ok-form_of-clause-promised g c not =
     let answer = seen_end c.ask-in-Ok-form_of.result.0 in
     subst (λ r. IsPromiseOf gives o language terminal (seen_request r) c.args.inputs out answer) (sym c.in-Cut.is)
     (subst
-    (λ (command : Result Command Report). Follows (λ k. IsKept gives o language k (seen_question c.in-Cut.question) (seen_limits c.in-Cut.limits)) command c.args.inputs out answer)
-    c.in-Ok-form_of.ensures (c.ask-in-Ok-form_of.ensures.promised not))
+    (λ (command : Result Command Report). Follows (λ k. IsAskedBy Promise gives o language k (seen_question c.in-Cut.question) (seen_limits c.in-Cut.limits)) command c.args.inputs out answer)
+    c.in-Ok-form_of.ensures (c.ask-in-Ok-form_of.ensures Promise not))
 
 pub returns-in-Check-clause-answered : goal.returns-in-Check-clause-answered
 returns-in-Check-clause-answered g c not =
     let o : Opens g.row.I.Denot g.row.I-Stream.Denot = record { opens = g.I.Inputs.opens; left = g.I.Stream.ByteSource.left } in
     let out = output_of (g.O.ByteSink.written c.args.out) (g.O.ByteSink.written c.ask-in-Check.result.1) (g.O.ByteSink.has_failed c.ask-in-Check.result.1) in
     subst (λ r. IsAnswerTo g.I.Inputs.gives g.I.Inputs.puts o c.args.setup.now.language c.args.setup.now.is_terminal (seen_request r) c.args.inputs out (seen_end c.ask-in-Check.result.0)) (sym c.in-Check.is)
-    (c.ask-in-Check.ensures.printed not)
+    (c.ask-in-Check.ensures Content not)
 
 pub returns-in-Check-clause-promised : goal.returns-in-Check-clause-promised
 returns-in-Check-clause-promised g c not =
     let o : Opens g.row.I.Denot g.row.I-Stream.Denot = record { opens = g.I.Inputs.opens; left = g.I.Stream.ByteSource.left } in
     let out = output_of (g.O.ByteSink.written c.args.out) (g.O.ByteSink.written c.ask-in-Check.result.1) (g.O.ByteSink.has_failed c.ask-in-Check.result.1) in
     subst (λ r. IsPromiseOf g.I.Inputs.gives o c.args.setup.now.language c.args.setup.now.is_terminal (seen_request r) c.args.inputs out (seen_end c.ask-in-Check.result.0)) (sym c.in-Check.is)
-    (c.ask-in-Check.ensures.promised not)
+    (c.ask-in-Check.ensures Promise not)
+
+pub returns-in-Ok-clause-answered : goal.returns-in-Ok-clause-answered
+returns-in-Ok-clause-answered g c not =
+    let gives = g.I.Inputs.gives in
+    let o : Opens g.row.I.Denot g.row.I-Stream.Denot = record { opens = g.I.Inputs.opens; left = g.I.Stream.ByteSource.left } in
+    let language = c.args.setup.now.language in
+    let terminal = c.args.setup.now.is_terminal in
+    let out = output_of (g.O.ByteSink.written c.args.out) (g.O.ByteSink.written c.ask.result.1) (g.O.ByteSink.has_failed c.ask.result.1) in
+    let answer = seen_end c.ask.result.0 in
+    let q = seen_question c.in-Why.question in
+    let none : seen_limits (record { fixed = None; keep = c.new.result; only = c.new-2.result; costs = None }) ≡ no_limits = search rules in
+    subst (λ r. IsAnswerTo gives g.I.Inputs.puts o language terminal (seen_request r) c.args.inputs out answer) (sym c.in-Why.is)
+    (subst (λ (command : Result Command Report). Follows (λ k. IsAskedBy Content gives o language k q no_limits) command c.args.inputs out answer) c.in-Ok.ensures
+    (subst (λ l. IsAskedBy Content gives o language (seen_command c.in-Ok.command) q l c.args.inputs out answer) none (c.ask.ensures Content not)))
+
+pub returns-in-Ok-who_of-clause-answered : goal.returns-in-Ok-who_of-clause-answered
+returns-in-Ok-who_of-clause-answered g c not =
+    let gives = g.I.Inputs.gives in
+    let o : Opens g.row.I.Denot g.row.I-Stream.Denot = record { opens = g.I.Inputs.opens; left = g.I.Stream.ByteSource.left } in
+    let language = c.args.setup.now.language in
+    let terminal = c.args.setup.now.is_terminal in
+    let out = output_of (g.O.ByteSink.written c.args.out) (g.O.ByteSink.written c.ask-in-Ok-who_of.result.1) (g.O.ByteSink.has_failed c.ask-in-Ok-who_of.result.1) in
+    let answer = seen_end c.ask-in-Ok-who_of.result.0 in
+    let q = seen_question c.in-Who.question in
+    let none : seen_limits (record { fixed = None; keep = c.new.result; only = c.new-2.result; costs = None }) ≡ no_limits = search rules in
+    subst (λ r. IsAnswerTo gives g.I.Inputs.puts o language terminal (seen_request r) c.args.inputs out answer) (sym c.in-Who.is)
+    (subst (λ (command : Result Command Report). Follows (λ k. IsAskedBy Content gives o language k q no_limits) command c.args.inputs out answer) c.in-Ok-who_of.ensures
+    (subst (λ l. IsAskedBy Content gives o language (seen_command c.in-Ok-who_of.command) q l c.args.inputs out answer) none (c.ask-in-Ok-who_of.ensures Content not)))
+
+pub returns-in-Graph-clause-answered : goal.returns-in-Graph-clause-answered
+returns-in-Graph-clause-answered g c not =
+    let gives = g.I.Inputs.gives in
+    let o : Opens g.row.I.Denot g.row.I-Stream.Denot = record { opens = g.I.Inputs.opens; left = g.I.Stream.ByteSource.left } in
+    let language = c.args.setup.now.language in
+    let terminal = c.args.setup.now.is_terminal in
+    let out = output_of (g.O.ByteSink.written c.args.out) (g.O.ByteSink.written c.ask-in-Graph.result.1) (g.O.ByteSink.has_failed c.ask-in-Graph.result.1) in
+    let answer = seen_end c.ask-in-Graph.result.0 in
+    let q = seen_question c.in-Graph.question in
+    let none : seen_limits (record { fixed = None; keep = c.new.result; only = c.new-2.result; costs = None }) ≡ no_limits = search rules in
+    subst (λ r. IsAnswerTo gives g.I.Inputs.puts o language terminal (seen_request r) c.args.inputs out answer) (sym c.in-Graph.is)
+    (subst (λ l. IsAskedBy Content gives o language Graph q l c.args.inputs out answer) none (c.ask-in-Graph.ensures Content not))

@@ -1,0 +1,35 @@
+-- The commands that ask about sources and headers.
+use Rattle.std.specs.Prelude.{ℕ, Bool, true, false, List, Option, Some, None}
+use Rattle.inc_report.specs.declared.named.NamedForm.{NamedForm}
+
+-- what is asked about a source and a header
+pub data Command : Type 0 where
+  Why : Command
+  -- with the chains, or without
+  Who : (with_chains : Bool) → Command
+  -- about sources alone
+  Graph : Command
+  Cut : Command
+  -- for the files of the cut with its directives blanked
+  Blank : Command
+  -- for the diff that removes its directives
+  Patch : Command
+  -- why, or which directives to remove, with directives as they are written
+  Named : NamedForm → Command
+  -- of the certificate that this word names
+  Check : (name : List ℕ) → Command
+
+-- the word that names a certificate
+abbrev pub certificate_of : Command → Option (List ℕ)
+certificate_of (Check name) = Some name
+certificate_of _ = None
+
+-- whether it is about headers, too
+abbrev pub has_headers : Command → Bool
+has_headers Graph = false
+has_headers _ = true
+
+-- the paths of the headers, where it is about some
+abbrev pub headers_of : Command → (to : List (List ℕ)) → Option (List (List ℕ))
+headers_of Graph to = None
+headers_of _ to = Some to

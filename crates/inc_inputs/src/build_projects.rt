@@ -1,0 +1,706 @@
+//! The project that a question with `-p BUILD` is about, and the words that stand in place of those of the question.
+ghost use Rattle.std.specs.Prelude.{◌≡◌, ◌≢◌, ◌++◌, [], ◌∷◌, List, None, Some, Err, Ok, false, true, IfErr, IfOk, OnOk, map, option_map};
+ghost use Rattle.inc_args.specs.Views.{seen_files, seen_pp, seen_question};
+ghost use Rattle.inc_build.specs.Builds.{with_name};
+ghost use Rattle.inc_build.specs.Configurations.{Row as AnyRow, is_kind};
+ghost use Rattle.inc_build.specs.Views.{seen_row};
+ghost use Rattle.inc_inputs.specs.BuildNotes.{none, with_lines};
+ghost use Rattle.inc_inputs.specs.BuildPaths.{form};
+ghost use Rattle.inc_inputs.specs.BuildProjects as spec;
+ghost use Rattle.inc_inputs.specs.BuildReports.{skipped_line, some_lines};
+ghost use Rattle.inc_inputs.specs.BuildSteps.{found, found_by, found_if, found_in, found_of_word, found_on};
+ghost use Rattle.inc_inputs.specs.Reports.{not_utf8, out_of_memory, report_of};
+ghost use Rattle.std.specs.Str.{is_utf8};
+ghost use Rattle.inc_inputs.specs.Steps.{Comes};
+ghost use Rattle.inc_inputs.specs.Views.{chosen_in, database_in, dirs_in, ground_in, notes_in, project_in, seen_found, seen_project, words_in};
+
+use crate::build_choices::{BuildWords, Choice, choose, header_form};
+use crate::build_entries::{check_uses, first_macros, rows_of, skipped_notes, skipped_of};
+use crate::build_files::{BuildFiles, read_files};
+use crate::build_grounds::{Database, Ground, ground_of, read_here, read_named_database};
+use crate::build_macros::MacroWord;
+use crate::build_texts::{Notes, put_absent};
+use crate::failures::Failure;
+use crate::inputs::Inputs;
+use inc_args::{FileList, PpArgs, QuestionArgs};
+use inc_build::{Kind, Row, Use};
+use inc_text::{Key, SeededState};
+use indexmap::IndexSet;
+use std::alloc::{AllocError, Global};
+use std::str;
+
+/// A project as data: what is read for it, and the words in place of those of the question.
+#[derive(Drop)]
+pub struct BuildProject {
+    /// The paths of its files, each ended by NUL.
+    pub list: Vec<u8>,
+    dirs: Dirs,
+    sources: Vec<Vec<u8>>,
+    headers: Vec<Vec<u8>>,
+    /// The words for macros of its entries.
+    pub macros: Vec<MacroWord>,
+    /// What is noted.
+    pub notes: Vec<u8>,
+}
+
+/// The directories in which headers are searched.
+#[derive(Drop)]
+struct Dirs {
+    dirs: Vec<Vec<u8>>,
+    system: Vec<Vec<u8>>,
+    last: Vec<Vec<u8>>,
+}
+
+/// The project of a question, if it names a build.
+pub fn find_question<I: Inputs>(
+    alloc: Global,
+    seed: u64,
+    inputs: &mut I,
+    question: &QuestionArgs<'_>,
+) -> Result<Option<BuildProject>, Failure>
+    ensures { let q = seen_question question.now in
+        Comes (found_if I.gives q.files (spec.words_of_question q)) inputs.old (seen_project result) inputs.new }
+{
+    match question_words(alloc, question) {
+        Ok(words) => find_if(alloc, seed, inputs, &question.files, &words),
+        Err(_) => Err(Failure::NoMemory),
+    }
+}
+
+/// What a question asks of a build.
+fn question_words<'a>(
+    alloc: Global,
+    question: &QuestionArgs<'a>,
+) -> Result<BuildWords<'a>, AllocError>
+    ensures { IfOk result (λ words. words_in words ≡ spec.words_of_question (seen_question question.now)) }
+{
+    Ok(BuildWords {
+        sources: alone_or(alloc, question.source, &question.from)?,
+        headers: alone_or(alloc, question.header, &question.to)?,
+        has_globs: question.source.is_none(),
+        has_macros: false,
+    })
+}
+
+/// The project of a preprocessing, if it names a build.
+pub fn find_preprocessing<I: Inputs>(
+    alloc: Global,
+    seed: u64,
+    inputs: &mut I,
+    args: &PpArgs<'_>,
+) -> Result<Option<BuildProject>, Failure>
+    ensures { let p = seen_pp args.now in
+        Comes (found_if I.gives p.files (spec.words_of_pp p)) inputs.old (seen_project result) inputs.new }
+{
+    match pp_words(alloc, args) {
+        Ok(words) => find_if(alloc, seed, inputs, &args.files, &words),
+        Err(_) => Err(Failure::NoMemory),
+    }
+}
+
+/// What a preprocessing asks of a build.
+fn pp_words<'a>(alloc: Global, args: &PpArgs<'a>) -> Result<BuildWords<'a>, AllocError>
+    ensures { IfOk result (λ words. words_in words ≡ spec.words_of_pp (seen_pp args.now)) }
+{
+    Ok(BuildWords {
+        sources: Vec::from_slice(alloc, &args.sources)?,
+        headers: Vec::new(alloc),
+        has_globs: false,
+        has_macros: true,
+    })
+}
+
+/// A word, or those of an option where there is none.
+fn alone_or<'a>(
+    alloc: Global,
+    word: Option<&'a str>,
+    words: &[&'a str],
+) -> Result<Vec<&'a str>, AllocError>
+    ensures { IfOk result (λ all. map (λ w. w.now) all.items
+        ≡ spec.or_words (option_map (λ w. w.now) word.entry) (map (λ w. w.now) words.now)) }
+{
+    let Some(word) = word else {
+        return Vec::from_slice(alloc, words);
+    };
+    let mut alone = Vec::new(alloc);
+    alone.push(word)?;
+    Ok(alone)
+}
+
+/// The project of a build, if a word names one.
+fn find_if<I: Inputs>(
+    alloc: Global,
+    seed: u64,
+    inputs: &mut I,
+    files: &FileList<'_>,
+    words: &BuildWords<'_>,
+) -> Result<Option<BuildProject>, Failure>
+    ensures { Comes (found_if I.gives (seen_files files.now) (words_in words.now)) inputs.old (seen_project result) inputs.new }
+{
+    match files.build {
+        Some(build) => find_named(alloc, seed, inputs, build, files, words),
+        None => Ok(None),
+    }
+}
+
+/// The project of the build that a word names.
+fn find_named<I: Inputs>(
+    alloc: Global,
+    seed: u64,
+    inputs: &mut I,
+    build: &str,
+    files: &FileList<'_>,
+    words: &BuildWords<'_>,
+) -> Result<Option<BuildProject>, Failure>
+    ensures { Comes (found_of_word I.gives (seen_files files.now) (words_in words.now) (Some build.now)) inputs.old (seen_project result) inputs.new }
+{
+    match find(alloc, seed, inputs, build, files, words) {
+        Ok(found) => Ok(Some(found)),
+        Err(failure) => Err(failure),
+    }
+}
+
+/// Reads what a project rests on, finds its files, and then what words stand for.
+fn find<I: Inputs>(
+    alloc: Global,
+    seed: u64,
+    inputs: &mut I,
+    build: &str,
+    files: &FileList<'_>,
+    words: &BuildWords<'_>,
+) -> Result<BuildProject, Failure>
+    ensures { Comes (found I.gives build.now (seen_files files.now) (words_in words.now)) inputs.old (seen_found result) inputs.new }
+{
+    match read_here(alloc, inputs) {
+        Ok(here) => find_in(alloc, seed, inputs, here, build, files, words),
+        Err(failure) => Err(failure),
+    }
+}
+
+/// The same in a folder of the run.
+fn find_in<I: Inputs>(
+    alloc: Global,
+    seed: u64,
+    inputs: &mut I,
+    here: Vec<u8>,
+    build: &str,
+    files: &FileList<'_>,
+    words: &BuildWords<'_>,
+) -> Result<BuildProject, Failure>
+    ensures { Comes (found_in I.gives here.items build.now (seen_files files.now) (words_in words.now)) inputs.old (seen_found result) inputs.new }
+{
+    match read_named_database(alloc, inputs, build) {
+        Ok(database) => find_by(alloc, seed, inputs, here, &database, files, words),
+        Err(failure) => Err(failure),
+    }
+}
+
+/// The same by a database.
+fn find_by<I: Inputs>(
+    alloc: Global,
+    seed: u64,
+    inputs: &mut I,
+    here: Vec<u8>,
+    database: &Database,
+    files: &FileList<'_>,
+    words: &BuildWords<'_>,
+) -> Result<BuildProject, Failure>
+    ensures { Comes (found_by I.gives here.items (database_in database.now) (seen_files files.now) (words_in words.now)) inputs.old (seen_found result) inputs.new }
+{
+    match ground_of(alloc, seed, here, database, files) {
+        Ok(ground) => find_on(alloc, seed, inputs, &ground, files, words),
+        Err(failure) => Err(failure),
+    }
+}
+
+/// The same by what a project rests on.
+fn find_on<I: Inputs>(
+    alloc: Global,
+    seed: u64,
+    inputs: &mut I,
+    ground: &Ground<'_>,
+    files: &FileList<'_>,
+    words: &BuildWords<'_>,
+) -> Result<BuildProject, Failure>
+    ensures { Comes (found_on I.gives (ground_in ground.now) (seen_files files.now) (words_in words.now)) inputs.old (seen_found result) inputs.new }
+{
+    match read_files(alloc, seed, inputs, ground, files) {
+        Ok(found) => project_by(alloc, seed, ground, &found, files, words),
+        Err(failure) => Err(failure),
+    }
+}
+
+/// The project by its files.
+fn project_by(
+    alloc: Global,
+    seed: u64,
+    ground: &Ground<'_>,
+    found: &BuildFiles,
+    files: &FileList<'_>,
+    words: &BuildWords<'_>,
+) -> Result<BuildProject, Failure>
+    ensures { let g = ground_in ground.now in let w = words_in words.now in seen_found result ≢ Err out_of_memory →
+        seen_found result ≡ spec.found_by_choice g found.now (seen_files files.now) w (spec.chosen g found.now w) }
+{
+    match choose(alloc, ground, found, words) {
+        Ok(choice) => project_of(alloc, seed, ground, found, files, words, choice),
+        Err(failure) => Err(failure),
+    }
+}
+
+/// The project of the entries that are chosen.
+fn project_of(
+    alloc: Global,
+    seed: u64,
+    ground: &Ground<'_>,
+    found: &BuildFiles,
+    files: &FileList<'_>,
+    words: &BuildWords<'_>,
+    choice: Choice,
+) -> Result<BuildProject, Failure>
+    ensures { seen_found result ≢ Err out_of_memory → seen_found result
+        ≡ spec.found_by_choice (ground_in ground.now) found.now (seen_files files.now) (words_in words.now) (Ok (chosen_in choice)) }
+{
+    match check_uses(alloc, ground, words.has_macros, &choice.uses) {
+        Ok(()) => checked_project(alloc, seed, ground, found, files, &words.headers, choice),
+        Err(failure) => Err(failure),
+    }
+}
+
+/// The project of entries that agree.
+fn checked_project(
+    alloc: Global,
+    seed: u64,
+    ground: &Ground<'_>,
+    found: &BuildFiles,
+    files: &FileList<'_>,
+    headers: &[&str],
+    choice: Choice,
+) -> Result<BuildProject, Failure>
+    ensures { let g = ground_in ground.now in let c = chosen_in choice in seen_found result ≢ Err out_of_memory → seen_found result
+        ≡ Ok (spec.found_with g found.now (map (λ h. h.now) headers.now) c (spec.all_dirs g (spec.rows_at g.build c.uses) (seen_files files.now))) }
+{
+    match made_project(alloc, seed, ground, found, files, headers, choice) {
+        Ok(project) => Ok(project),
+        Err(_) => Err(Failure::NoMemory),
+    }
+}
+
+/// The same, or that memory ran out.
+fn made_project(
+    alloc: Global,
+    seed: u64,
+    ground: &Ground<'_>,
+    found: &BuildFiles,
+    files: &FileList<'_>,
+    headers: &[&str],
+    choice: Choice,
+) -> Result<BuildProject, AllocError>
+    ensures { let g = ground_in ground.now in let c = chosen_in choice in IfOk result (λ project. project_in project
+        ≡ spec.found_with g found.now (map (λ h. h.now) headers.now) c (spec.all_dirs g (spec.rows_at g.build c.uses) (seen_files files.now))) }
+{
+    let dirs = all_dirs(alloc, ground, rows_of(ground, &choice.uses), files)?;
+    let notes = notes_of(alloc, seed, ground, found, &choice, &dirs)?;
+    let headers = headers_of(alloc, ground, found, headers)?;
+    let macros = first_macros(alloc, ground, &choice.uses)?;
+    let list = found.list(alloc)?;
+    Ok(BuildProject {
+        list,
+        dirs,
+        sources: choice.sources,
+        headers,
+        macros,
+        notes,
+    })
+}
+
+/// The directories of an include path, those of each sort before those of words.
+fn all_dirs(
+    alloc: Global,
+    ground: &Ground<'_>,
+    rows: &[Row],
+    files: &FileList<'_>,
+) -> Result<Dirs, AllocError>
+    ensures { IfOk result (λ dirs. dirs_in dirs ≡ spec.all_dirs (ground_in ground.now) (map seen_row rows.now) (seen_files files.now)) }
+{
+    let dirs = dirs_and(alloc, ground, Kind::Searched, rows, &files.dirs)?;
+    let system = dirs_and(alloc, ground, Kind::System, rows, &files.system)?;
+    let last = dirs_and(alloc, ground, Kind::Last, rows, &files.last)?;
+    Ok(Dirs { dirs, system, last })
+}
+
+/// The directories of one kind of an include path, and after them those of words.
+fn dirs_and(
+    alloc: Global,
+    ground: &Ground<'_>,
+    kind: Kind,
+    rows: &[Row],
+    words: &[&str],
+) -> Result<Vec<Vec<u8>>, AllocError>
+    ensures { IfOk result (λ dirs. map (λ d. d.items) dirs.items
+        ≡ spec.dirs_and (ground_in ground.now) kind (map seen_row rows.now) (map (λ w. w.now) words.now)) }
+{
+    let mut dirs = dirs_of(alloc, ground, kind, rows)?;
+    add_words(alloc, ground, &mut dirs, words)?;
+    Ok(dirs)
+}
+
+/// Adds the directories of words.
+fn add_words(
+    alloc: Global,
+    ground: &Ground<'_>,
+    dirs: &mut Vec<Vec<u8>>,
+    words: &[&str],
+) -> Result<(), AllocError>
+    ensures { let g = ground_in ground.now in OnOk result (map (λ d. d.items) dirs.new.items
+        ≡ map (λ d. d.items) dirs.old.items ++ map (form g.here g.is_relative) (map (λ w. w.now) words.now)) }
+{
+    for word in words {
+        let dir = form(alloc, ground, word.as_bytes())?;
+        dirs.push(dir)?;
+    }
+    Ok(())
+}
+
+/// A word as the project has it.
+fn form(alloc: Global, ground: &Ground<'_>, word: &[u8]) -> Result<Vec<u8>, AllocError>
+    ensures { let g = ground_in ground.now in IfOk result (λ path. path.items ≡ form g.here g.is_relative word.now) }
+{
+    ground.forms().of_word(alloc, word)
+}
+
+/// The directories of one kind of an include path.
+fn dirs_of(
+    alloc: Global,
+    ground: &Ground<'_>,
+    kind: Kind,
+    rows: &[Row],
+) -> Result<Vec<Vec<u8>>, AllocError>
+    ensures { IfOk result (λ dirs. map (λ d. d.items) dirs.items ≡ spec.dirs_of (ground_in ground.now) kind (map seen_row rows.now)) }
+{
+    let mut dirs = Vec::new(alloc);
+    let mut at = 0;
+    while at < rows.len() {
+        add_row(alloc, ground, kind, &mut dirs, &rows[at])?;
+        at += 1;
+    }
+    Ok(dirs)
+}
+
+/// Whether two kinds are the same.
+fn is_kind(a: Kind, b: Kind) -> bool
+    ensures { result ≡ is_kind a b }
+{
+    match (a, b) {
+        (Kind::Quoted, Kind::Quoted) => true,
+        (Kind::Searched, Kind::Searched) => true,
+        (Kind::System, Kind::System) => true,
+        (Kind::Last, Kind::Last) => true,
+        (Kind::Macros, Kind::Macros) => true,
+        (Kind::Included, Kind::Included) => true,
+        (Kind::Defined, Kind::Defined) => true,
+        (Kind::Undefined, Kind::Undefined) => true,
+        _ => false,
+    }
+}
+
+/// Adds the directory of a row, if it is of this kind.
+fn add_row(
+    alloc: Global,
+    ground: &Ground<'_>,
+    kind: Kind,
+    dirs: &mut Vec<Vec<u8>>,
+    row: &Row,
+) -> Result<(), AllocError>
+    ensures { let g = ground_in ground.now in OnOk result ((rest : List AnyRow) →
+        map (λ d. d.items) dirs.new.items ++ spec.dirs_of g kind rest ≡ map (λ d. d.items) dirs.old.items ++ spec.dirs_of g kind (seen_row row.now ∷ rest)) }
+{
+    if is_kind(row.kind, kind) {
+        dirs.push(Vec::from_slice(alloc, ground.forms().of(&row.path))?)?;
+    }
+    Ok(())
+}
+
+/// Words for headers in their form.
+fn headers_of(
+    alloc: Global,
+    ground: &Ground<'_>,
+    found: &BuildFiles,
+    words: &[&str],
+) -> Result<Vec<Vec<u8>>, AllocError>
+    ensures { IfOk result (λ headers. map (λ h. h.items) headers.items
+        ≡ map (spec.header_form (ground_in ground.now) found.now) (map (λ w. w.now) words.now)) }
+{
+    let mut headers = Vec::new(alloc);
+    for word in words {
+        headers.push(header_form(alloc, ground, found, word.as_bytes())?)?;
+    }
+    Ok(headers)
+}
+
+/// What is noted of a project.
+fn notes_of(
+    alloc: Global,
+    seed: u64,
+    ground: &Ground<'_>,
+    found: &BuildFiles,
+    choice: &Choice,
+    dirs: &Dirs,
+) -> Result<Vec<u8>, AllocError>
+    ensures { let g = ground_in ground.now in let c = chosen_in choice.now in IfOk result (λ notes. notes.items
+        ≡ spec.notes_of found.now c.absent (spec.skipped_of g.entries [] c.uses) (dirs_in dirs.now)) }
+{
+    let mut notes = Vec::new(alloc);
+    put_absent(alloc, &mut notes, choice.absent)?;
+    put_skipped(alloc, seed, ground, &choice.uses, &mut notes)?;
+    put_empty(alloc, seed, found, dirs, &mut notes)?;
+    Ok(notes)
+}
+
+/// Adds notes of the options of entries that are skipped.
+fn put_skipped(
+    alloc: Global,
+    seed: u64,
+    ground: &Ground<'_>,
+    uses: &[Use],
+    notes: &mut Vec<u8>,
+) -> Result<(), AllocError>
+    ensures { OnOk result (notes.new.items
+        ≡ notes.old.items ++ some_lines (map skipped_line (spec.skipped_of (ground_in ground.now).entries [] uses.now))) }
+{
+    let skipped = skipped_of(alloc, seed, ground, uses)?;
+    let own = skipped_notes(alloc, &skipped)?;
+    own.put(alloc, notes)?;
+    Ok(())
+}
+
+/// Adds notes of the directories below which no file of the project is, each once.
+fn put_empty(
+    alloc: Global,
+    seed: u64,
+    found: &BuildFiles,
+    dirs: &Dirs,
+    notes: &mut Vec<u8>,
+) -> Result<(), AllocError>
+    ensures { OnOk result (notes.new.items ≡ notes.old.items ++ some_lines (spec.all_empty found.now (dirs_in dirs.now))) }
+{
+    let own = empty_notes(alloc, seed, found, dirs)?;
+    own.put(alloc, notes)?;
+    Ok(())
+}
+
+/// The notes of the directories below which no file of the project is.
+fn empty_notes(
+    alloc: Global,
+    seed: u64,
+    found: &BuildFiles,
+    dirs: &Dirs,
+) -> Result<Notes, AllocError>
+    ensures { IfOk result (λ notes. notes_in notes ≡ with_lines none (spec.all_empty found.now (dirs_in dirs.now))) }
+{
+    let mut empty = Empty::new(alloc, SeededState::new(seed));
+    empty.add_all(alloc, found, b"-I", &dirs.dirs)?;
+    empty.add_all(alloc, found, b"-isystem", &dirs.system)?;
+    empty.add_all(alloc, found, b"-idirafter", &dirs.last)?;
+    Ok(empty.notes)
+}
+
+/// Notes of directories below which no file of the project is, and the directories that are known.
+#[derive(Drop)]
+struct Empty {
+    notes: Notes,
+    known: IndexSet<Key, SeededState>,
+}
+
+impl Empty {
+    /// None.
+    fn new(alloc: Global, keys: SeededState) -> Empty
+        ensures notes { notes_in result.notes ≡ none }
+        ensures known { result.known.keys ≡ [] }
+    {
+        Empty {
+            notes: Notes::new(alloc),
+            known: IndexSet::with_hasher(alloc, keys),
+        }
+    }
+
+    /// Notes those of some directories that are not known yet.
+    fn add_all(
+        &mut self,
+        alloc: Global,
+        found: &BuildFiles,
+        option: &[u8],
+        dirs: &[Vec<u8>],
+    ) -> Result<(), AllocError>
+        ensures notes { OnOk result (notes_in self.new.notes ≡ with_lines (notes_in self.old.notes)
+            (spec.empty_lines found.now option.now self.old.known.keys (map (λ d. d.items) dirs.now))) }
+        ensures known { OnOk result (self.new.known.keys ≡ spec.once self.old.known.keys (map (λ d. d.items) dirs.now)) }
+    {
+        let mut at = 0;
+        while at < dirs.len() {
+            self.add(alloc, found, option, &dirs[at])?;
+            at += 1;
+        }
+        Ok(())
+    }
+
+    /// Notes a directory, if it is not known yet.
+    fn add(
+        &mut self,
+        alloc: Global,
+        found: &BuildFiles,
+        option: &[u8],
+        dir: &[u8],
+    ) -> Result<(), AllocError>
+        ensures notes { OnOk result (notes_in self.new.notes ≡ with_lines (notes_in self.old.notes)
+            (spec.if_empty found.now option.now self.old.known.keys dir.now)) }
+        ensures known { OnOk result (self.new.known.keys ≡ with_name dir.now self.old.known.keys) }
+    {
+        let is_new = self.known.insert(Key::copied(alloc, dir)?)?;
+        if is_new && !found.has_below(dir) {
+            self.notes.add_empty(alloc, option, dir)?;
+        }
+        Ok(())
+    }
+}
+
+impl BuildProject {
+    /// The question with these words in place of its own.
+    pub fn question<'f>(
+        &'f self,
+        alloc: Global,
+        question: &QuestionArgs<'f>,
+    ) -> Result<QuestionArgs<'f>, Failure>
+        ensures question { IfOk result (λ q. seen_question q ≡ spec.found_question (project_in self.now) (seen_question question.now)) }
+        ensures texts { IfOk result (λ _. spec.words_fault (project_in self.now) ≡ None) }
+        ensures fault { IfErr result (λ f. report_of f ≢ out_of_memory → spec.words_fault (project_in self.now) ≡ Some (report_of f)) }
+    {
+        let files = self.files(alloc)?;
+        let (sources, headers) = self.ends(alloc)?;
+        let drop = Vec::from_slice(alloc, &question.drop)?;
+        let undefined = Vec::from_slice(alloc, &question.undefined)?;
+        let source = in_place(question.source, &sources);
+        let header = in_place(question.header, &headers);
+        let from = unless_named(alloc, question.source, sources);
+        let to = unless_named(alloc, question.header, headers);
+        Ok(QuestionArgs {
+            files,
+            source,
+            header,
+            from,
+            to,
+            without: question.without,
+            drop,
+            undefined,
+        })
+    }
+
+    /// The preprocessing with these words in place of its own.
+    pub fn preprocessing<'f>(
+        &'f self,
+        alloc: Global,
+        args: &PpArgs<'f>,
+    ) -> Result<PpArgs<'f>, Failure>
+        ensures words { IfOk result (λ p. seen_pp p ≡ spec.found_preprocessing (project_in self.now) (seen_pp args.now)) }
+        ensures texts { IfOk result (λ _. spec.words_fault (project_in self.now) ≡ None) }
+        ensures fault { IfErr result (λ f. report_of f ≢ out_of_memory → spec.words_fault (project_in self.now) ≡ Some (report_of f)) }
+    {
+        let files = self.files(alloc)?;
+        let (sources, _) = self.ends(alloc)?;
+        let words = Vec::from_slice(alloc, &args.words)?;
+        Ok(PpArgs {
+            files,
+            sources,
+            without: args.without,
+            defines: args.defines,
+            compiler: args.compiler,
+            words,
+            is_missing_empty: args.is_missing_empty,
+            has_markers: args.has_markers,
+            deps: args.deps,
+            status: args.status,
+        })
+    }
+
+    /// The words for sources and headers.
+    fn ends(&self, alloc: Global) -> Result<(Vec<&str>, Vec<&str>), Failure>
+        ensures sources { IfOk result (λ ends. map (λ t. t.now) ends.0.items ≡ (project_in self.now).sources) }
+        ensures headers { IfOk result (λ ends. map (λ t. t.now) ends.1.items ≡ (project_in self.now).headers) }
+        ensures all { IfOk result (λ _. spec.are_ends_utf8 (project_in self.now) ≡ true) }
+        ensures fault { IfErr result (λ f. report_of f ≢ out_of_memory →
+            (report_of f ≡ not_utf8) × (spec.are_ends_utf8 (project_in self.now) ≡ false)) }
+    {
+        let sources = texts_of(alloc, &self.sources)?;
+        let headers = texts_of(alloc, &self.headers)?;
+        Ok((sources, headers))
+    }
+
+    /// The files of the project: their list is known, and NUL ends each path of it.
+    fn files(&self, alloc: Global) -> Result<FileList<'_>, Failure>
+        ensures files { IfOk result (λ f. seen_files f ≡ spec.found_files (project_in self.now)) }
+        ensures all { IfOk result (λ _. spec.are_dirs_utf8 (project_in self.now) ≡ true) }
+        ensures fault { IfErr result (λ f. report_of f ≢ out_of_memory →
+            (report_of f ≡ not_utf8) × (spec.are_dirs_utf8 (project_in self.now) ≡ false)) }
+    {
+        Ok(FileList {
+            build: None,
+            list: None,
+            is_null: true,
+            roots: Vec::new(alloc),
+            dirs: texts_of(alloc, &self.dirs.dirs)?,
+            system: texts_of(alloc, &self.dirs.system)?,
+            last: texts_of(alloc, &self.dirs.last)?,
+        })
+    }
+}
+
+/// The first of some words in place of a word.
+fn in_place<'f>(word: Option<&'f str>, found: &[&'f str]) -> Option<&'f str>
+    ensures { option_map (λ w. w.now) result ≡ spec.in_place (option_map (λ w. w.now) word.entry) (map (λ w. w.now) found.now) }
+{
+    let Some(word) = word else {
+        return None;
+    };
+    match found.first() {
+        Some(first) => Some(*first),
+        None => Some(word),
+    }
+}
+
+/// Words in place of those of an option, where no word stands in place of these.
+fn unless_named<'f>(alloc: Global, word: Option<&str>, found: Vec<&'f str>) -> Vec<&'f str>
+    ensures { map (λ w. w.now) result.items
+        ≡ spec.unless_named (option_map (λ w. w.now) word.entry) (map (λ w. w.now) found.entry.items) }
+{
+    match word {
+        Some(_) => Vec::new(alloc),
+        None => found,
+    }
+}
+
+/// Words as texts. They come from the command line, from JSON and from names of files, all of which are UTF-8.
+fn texts_of(alloc: Global, words: &[Vec<u8>]) -> Result<Vec<&str>, Failure>
+    ensures texts { IfOk result (λ texts. map (λ t. t.now) texts.items ≡ map (λ w. w.items) words.now) }
+    ensures all { IfOk result (λ _. spec.are_utf8 (map (λ w. w.items) words.now) ≡ true) }
+    ensures fault { IfErr result (λ f. report_of f ≢ out_of_memory →
+        (report_of f ≡ not_utf8) × (spec.are_utf8 (map (λ w. w.items) words.now) ≡ false)) }
+{
+    let mut texts = Vec::with_capacity(alloc, words.len())?;
+    for word in words {
+        let text = text_of(word)?;
+        texts.push(text)?;
+    }
+    Ok(texts)
+}
+
+/// A word as a text.
+fn text_of(word: &[u8]) -> Result<&str, Failure>
+    ensures text { IfOk result (λ text. text.now ≡ word.now) }
+    ensures is { IfOk result (λ _. is_utf8 word.now ≡ true) }
+    ensures fault { IfErr result (λ f. (report_of f ≡ not_utf8) × (is_utf8 word.now ≡ false)) }
+{
+    match str::from_utf8(word) {
+        Ok(text) => Ok(text),
+        Err(_) => Err(Failure::NotUtf8),
+    }
+}
