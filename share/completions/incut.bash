@@ -13,10 +13,11 @@ _incut() {
     case $command in
         '') options="scan why who graph cut check pp help $options --version" ;;
         help) options="scan why who graph cut check pp" ;;
-        why) options+=" -p --files --root --follow --null -0 -I --isystem --idirafter --without --drop --quiet -q --format --all --undefined --from --to" ;;
-        graph) options+=" -p --files --root --follow --null -0 -I --isystem --idirafter --without --drop --undefined --from" ;;
-        who) options+=" -p --files --root --follow --null -0 -I --isystem --idirafter --without --drop --quiet -q --undefined --from --to --chains --format" ;;
-        cut) options+=" -p --files --root --follow --null -0 -I --isystem --idirafter --without --drop --undefined --from --to --fixed --keep --only --costs --quiet -q --blank --patch --format --all" ;;
+        scan) options+=" --format" ;;
+        why) options+=" -p --files --root --follow --null -0 -I --isystem --idirafter --without --drop --quiet -q --format --all --max --undefined --from --to" ;;
+        graph) options+=" -p --files --root --follow --null -0 -I --isystem --idirafter --without --drop --undefined --format --from" ;;
+        who) options+=" -p --files --root --follow --null -0 -I --isystem --idirafter --without --drop --quiet -q --undefined --from --to --chains --format --max" ;;
+        cut) options+=" -p --files --root --follow --null -0 -I --isystem --idirafter --without --drop --undefined --from --to --fixed --keep --only --costs --quiet -q --blank --patch --format --all --max" ;;
         check) options+=" -p --files --root --follow --null -0 -I --isystem --idirafter --without --drop --undefined --from --to --fixed --keep --only --costs --quiet -q" ;;
         pp) options+=" -p --files --root --follow --null -0 -I --isystem --idirafter --without -D --defines --compiler --missing-empty --lines --deps --status" ;;
     esac

@@ -12,13 +12,13 @@ files = record { build = None; list = Some (codes "f"); is_null = true; roots = 
 abbrev pub cut_words : List Text
 cut_words =
     codes "incut" ∷ codes "--extended" ∷ codes "cut" ∷ codes "-I" ∷ codes "a" ∷ codes "--files=f" ∷ codes "s.c" ∷ codes "-0Ib" ∷ codes "--costs" ∷ codes "-" ∷ codes "--blank"
-    ∷ codes "-q" ∷ codes "--format=text" ∷ codes "--all" ∷ codes "--keep" ∷ codes "k/*.h:7" ∷ codes "h.h" ∷ codes "--keep=l" ∷ []
+    ∷ codes "-q" ∷ codes "--format=text" ∷ codes "--max" ∷ codes "9" ∷ codes "--all" ∷ codes "--keep" ∷ codes "k/*.h:7" ∷ codes "h.h" ∷ codes "--keep=l" ∷ []
 
 -- options stand before words and after them; letters may share a word
 pub cut_is_asked : meaning cut_words
     ≡ record {
       asked = Cut (record { files = files; source = Some (codes "s.c"); header = Some (codes "h.h"); from = []; to = []; without = None; drop = []; undefined = [] }) (record { fixed = None; keep = codes "k/*.h:7" ∷ codes "l" ∷ []; only = []; costs = Some (codes "-") })
-          (record { is_blank = true; is_patch = false; format = record { name = Some (codes "text"); is_all = true } });
+          (record { is_blank = true; is_patch = false; format = record { name = Some (codes "text"); is_all = true; most = Some (codes "9") } });
       languages = record { is_extended = true; is_gnu = false };
       is_quiet = true;
       follows = false;
@@ -31,7 +31,7 @@ unfolding clap_on_literals
 cut_is_taken = refl
 
 -- no command
-pub standard_input_is_scanned : meaning (codes "incut" ∷ []) ≡ record { asked = Scan None; languages = record { is_extended = false; is_gnu = false }; is_quiet = false; follows = false }
+pub standard_input_is_scanned : meaning (codes "incut" ∷ []) ≡ record { asked = Scan None None; languages = record { is_extended = false; is_gnu = false }; is_quiet = false; follows = false }
 unfolding clap_on_literals
 standard_input_is_scanned = refl
 
@@ -69,7 +69,7 @@ pub sets_are_asked : meaning (codes "incut" ∷ codes "why" ∷ codes "--files" 
         without = None;
         drop = [];
         undefined = [];
-      }) (record { name = Some (codes "gcc"); is_all = false });
+      }) (record { name = Some (codes "gcc"); is_all = false; most = None });
       languages = record { is_extended = false; is_gnu = false };
       is_quiet = false;
       follows = false;
@@ -89,7 +89,7 @@ pub sources_are_asked : meaning (codes "incut" ∷ codes "who" ∷ codes "--file
         without = None;
         drop = [];
         undefined = codes "N" ∷ [];
-      }) (record { name = Some (codes "gcc"); is_all = true });
+      }) (record { name = Some (codes "gcc"); is_all = true; most = None });
       languages = record { is_extended = false; is_gnu = false };
       is_quiet = false;
       follows = false;
@@ -109,7 +109,7 @@ pub edges_are_asked : meaning (codes "incut" ∷ codes "graph" ∷ codes "--from
         without = None;
         drop = codes "a.c:3" ∷ [];
         undefined = [];
-      });
+      }) (record { name = None; is_all = false; most = None });
       languages = record { is_extended = false; is_gnu = false };
       is_quiet = false;
       follows = false;
@@ -118,7 +118,7 @@ unfolding clap_on_literals
 edges_are_asked = refl
 
 -- with a build, each of its sources is one
-pub sources_of_a_build_are_asked : meaning (codes "incut" ∷ codes "graph" ∷ codes "-pb" ∷ codes "--root=r" ∷ [])
+pub sources_of_a_build_are_asked : meaning (codes "incut" ∷ codes "graph" ∷ codes "-pb" ∷ codes "--root=r" ∷ codes "--format=dot" ∷ [])
     ≡ record {
       asked = Graph (record {
         files = record { build = Some (codes "b"); list = None; is_null = false; roots = codes "r" ∷ []; dirs = []; system = []; last = [] };
@@ -129,7 +129,7 @@ pub sources_of_a_build_are_asked : meaning (codes "incut" ∷ codes "graph" ∷ 
         without = None;
         drop = [];
         undefined = [];
-      });
+      }) (record { name = Some (codes "dot"); is_all = false; most = None });
       languages = record { is_extended = false; is_gnu = false };
       is_quiet = false;
       follows = false;

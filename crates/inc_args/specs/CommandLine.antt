@@ -106,6 +106,9 @@ format = option (codes "format")
 abbrev pub all : Rule
 all = flag (codes "all")
 
+abbrev pub most : Rule
+most = option (codes "max")
+
 -- -D
 abbrev pub define : Rule
 define = repeated 68 (codes "define")
@@ -186,9 +189,9 @@ note_rules = quiet ∷ []
 abbrev pub limit_rules : List Rule
 limit_rules = fixed ∷ keep ∷ only ∷ costs ∷ []
 
--- in which format an answer is printed
+-- in which format an answer is printed, and how much of it
 abbrev pub format_rules : List Rule
-format_rules = format ∷ all ∷ []
+format_rules = format ∷ all ∷ most ∷ []
 
 -- what is printed of a cut
 abbrev pub form_rules : List Rule
@@ -208,14 +211,14 @@ end_rules = undefined ∷ from ∷ to ∷ source ∷ header ∷ []
 
 -- which sources of several are asked for, and what is printed of them
 abbrev pub who_rules : List Rule
-who_rules = undefined ∷ chains ∷ format ∷ from ∷ to ∷ header ∷ []
+who_rules = undefined ∷ chains ∷ format ∷ most ∷ from ∷ to ∷ header ∷ []
 
--- from which sources, in builds that do not define some names
+-- from which sources, in builds that do not define some names, and in which format edges are printed
 abbrev pub graph_rules : List Rule
-graph_rules = undefined ∷ from ∷ []
+graph_rules = undefined ∷ format ∷ from ∷ []
 
 abbrev pub scan : App
-scan = command (codes "scan") (extended ∷ gnu ∷ path ∷ [])
+scan = command (codes "scan") (extended ∷ gnu ∷ format ∷ path ∷ [])
 
 abbrev pub why : App
 why = command (codes "why") (extended ∷ gnu ∷ file_rules ++ drop_rules ++ note_rules ++ format_rules ++ end_rules)

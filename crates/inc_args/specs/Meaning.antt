@@ -45,6 +45,8 @@ pub record Format : Type 0 where
   pub name : Option Text
   -- each chain is shown whole
   pub is_all : Bool
+  -- how many are printed at most, if that is given
+  pub most : Option Text
 
 -- what is asked for in place of a cut
 pub record Forms : Type 0 where
@@ -76,13 +78,13 @@ pub record Preprocessing : Type 0 where
 
 -- a command with what it is asked
 pub data Asked : Type 0 where
-  -- the file; standard input where none is named
-  Scan : Option Text → Asked
+  -- the file, standard input where none is named, and the name of the format
+  Scan : (path format : Option Text) → Asked
   Why : Question → Format → Asked
   -- with the chain of each source whole, or without
   Who : Question → Format → Asked
   -- about sources alone
-  Graph : Question → Asked
+  Graph : Question → Format → Asked
   Cut : Question → Limits → Forms → Asked
   -- and the certificate
   Check : Question → Limits → Text → Asked
@@ -167,7 +169,7 @@ limits_in rows = record {
 
 -- by the flag that shows chains whole
 abbrev pub format_in : (all : Text) → List Row → Format
-format_in all rows = record { name = first_of (codes "format") rows; is_all = is_given all rows }
+format_in all rows = record { name = first_of (codes "format") rows; is_all = is_given all rows; most = first_of (codes "max") rows }
 
 abbrev pub forms_in : List Row → Forms
 forms_in rows = record { is_blank = is_given (codes "blank") rows; is_patch = is_given (codes "patch") rows; format = format_in (codes "all") rows }
@@ -191,10 +193,10 @@ abbrev pub asked_by : Text → List Row → Asked
 asked_by name rows =
     if bytes_eq name (codes "why") then Why (question_in rows) (format_in (codes "all") rows) else
     if bytes_eq name (codes "who") then Who (who_in rows) (format_in (codes "chains") rows) else
-    if bytes_eq name (codes "graph") then Graph (who_in rows) else
+    if bytes_eq name (codes "graph") then Graph (who_in rows) (format_in (codes "all") rows) else
     if bytes_eq name (codes "cut") then Cut (question_in rows) (limits_in rows) (forms_in rows) else
     if bytes_eq name (codes "check") then Check (question_in rows) (limits_in rows) (value_of (codes "CERT") rows) else
-    if bytes_eq name (codes "pp") then Pp (preprocessing_in rows) else Scan (first_of (codes "PATH") rows)
+    if bytes_eq name (codes "pp") then Pp (preprocessing_in rows) else Scan (first_of (codes "PATH") rows) (first_of (codes "format") rows)
 
 -- a flag that is given before a command or after it
 abbrev pub is_given_in : Text → (outer inner : List Row) → Bool
@@ -206,7 +208,7 @@ languages_in outer inner =
 
 -- without a command, the directives of standard input are listed
 abbrev pub meaning_of : List Row → Option (Text × List Row) → Meaning
-meaning_of rows None = record { asked = Scan None; languages = languages_in rows []; is_quiet = false; follows = false }
+meaning_of rows None = record { asked = Scan None None; languages = languages_in rows []; is_quiet = false; follows = false }
 meaning_of rows (Some sub) =
     record {
       asked = asked_by sub.0 sub.1;

@@ -58,7 +58,7 @@ seen_pp p = record {
 }
 
 abbrev pub seen_format : FormatArgs → Format
-seen_format f = record { name = option_map (λ n. n.now) f.name; is_all = f.all }
+seen_format f = record { name = option_map (λ n. n.now) f.name; is_all = f.all; most = option_map (λ n. n.now) f.most }
 
 abbrev pub seen_forms : FormArgs → Forms
 seen_forms f = record { is_blank = f.blank; is_patch = f.patch; format = seen_format f.format }
@@ -67,10 +67,10 @@ abbrev pub seen_languages : LanguageArgs → Languages
 seen_languages l = record { is_extended = l.extended; is_gnu = l.gnu }
 
 abbrev pub seen_request : Request → Asked
-seen_request (request.Scan path) = Scan (option_map (λ p. p.now) path)
+seen_request (request.Scan path format) = Scan (option_map (λ p. p.now) path) (option_map (λ n. n.now) format)
 seen_request (request.Why q f) = Why (seen_question q) (seen_format f)
 seen_request (request.Who q f) = Who (seen_question q) (seen_format f)
-seen_request (request.Graph q) = Graph (seen_question q)
+seen_request (request.Graph q f) = Graph (seen_question q) (seen_format f)
 seen_request (request.Cut q l f) = Cut (seen_question q) (seen_limits l) (seen_forms f)
 seen_request (request.Check q l certificate) = Check (seen_question q) (seen_limits l) certificate.now
 seen_request (request.Pp p) = Pp (seen_pp p)

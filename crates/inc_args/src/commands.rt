@@ -6,8 +6,8 @@ ghost use Rattle.inc_args.specs.CommandLine.{end_rules, file_rules, form_rules, 
 
 use crate::help::{
     ABOUT, ALL_HELP, CHECK_NOTES, CUT_NOTES, EXAMPLES, EXTENDED_HELP, FORMAT_HELP, GNU_HELP,
-    GRAPH_NOTES, HEADER_HELP, PP_NOTES, SCAN_NOTES, SOURCES_HELP, TO_HELP, UNDEFINED_HELP, VERSION,
-    WHO_NOTES, WHY_NOTES,
+    GRAPH_NOTES, HEADER_HELP, MAX_HELP, PP_NOTES, SCAN_FORMAT_HELP, SCAN_NOTES, SOURCES_HELP,
+    TO_HELP, UNDEFINED_HELP, VERSION, WHO_NOTES, WHY_NOTES,
 };
 use crate::options::{
     files, flag, null, option, optional_word, path, quiet, repeated, repeated_option, single,
@@ -111,16 +111,18 @@ fn with_forms<'a>(alloc: Global, command: Command<'a>) -> Result<Command<'a>, Al
         .arg(flag(alloc, "blank", blank))?
         .arg(flag(alloc, "patch", patch))?
         .arg(option(alloc, "format", "FORMAT", FORMAT_HELP))?
-        .arg(flag(alloc, "all", ALL_HELP))
+        .arg(flag(alloc, "all", ALL_HELP))?
+        .arg(option(alloc, "max", "N", MAX_HELP))
 }
 
-/// Adds the options that tell in which format an answer is printed.
+/// Adds the options that tell in which format an answer is printed, and how much of it.
 fn with_format<'a>(alloc: Global, command: Command<'a>) -> Result<Command<'a>, AllocError>
     ensures { IfOk result (λ c. app_of c ≡ with_rules (app_of command.entry) format_rules) }
 {
     command
         .arg(option(alloc, "format", "FORMAT", FORMAT_HELP))?
-        .arg(flag(alloc, "all", ALL_HELP))
+        .arg(flag(alloc, "all", ALL_HELP))?
+        .arg(option(alloc, "max", "N", MAX_HELP))
 }
 
 /// Adds the options that tell which macros are defined, what is done without a header, and whether lines are marked.
@@ -174,17 +176,19 @@ fn with_who<'a>(alloc: Global, command: Command<'a>) -> Result<Command<'a>, Allo
         .arg(repeated_option(alloc, "undefined", "NAME", UNDEFINED_HELP))?
         .arg(flag(alloc, "chains", chains))?
         .arg(option(alloc, "format", "FORMAT", FORMAT_HELP))?
+        .arg(option(alloc, "max", "N", MAX_HELP))?
         .arg(repeated_option(alloc, "from", "GLOB", SOURCES_HELP))?
         .arg(repeated_option(alloc, "to", "GLOB", TO_HELP))?
         .arg(optional_word(alloc, "HEADER", HEADER_HELP))
 }
 
-/// Adds what names the sources, which need not be named, and what no build defines.
+/// Adds what names the sources, which need not be named, what no build defines, and the format of the answer.
 fn with_sources<'a>(alloc: Global, command: Command<'a>) -> Result<Command<'a>, AllocError>
     ensures { IfOk result (λ c. app_of c ≡ with_rules (app_of command.entry) graph_rules) }
 {
     command
         .arg(repeated_option(alloc, "undefined", "NAME", UNDEFINED_HELP))?
+        .arg(option(alloc, "format", "FORMAT", FORMAT_HELP))?
         .arg(repeated_option(alloc, "from", "GLOB", SOURCES_HELP))
 }
 
@@ -197,7 +201,9 @@ fn scan<'a>(alloc: Global) -> Result<Command<'a>, AllocError>
         "List the include directives of a file",
         SCAN_NOTES,
     )?;
-    command.arg(path(alloc))
+    command
+        .arg(option(alloc, "format", "FORMAT", SCAN_FORMAT_HELP))?
+        .arg(path(alloc))
 }
 
 fn why<'a>(alloc: Global) -> Result<Command<'a>, AllocError>

@@ -23,7 +23,13 @@ pub(crate) const HEADER_HELP: &str =
     "Header to look for, by its path, its name in an include, or the end of its path";
 
 pub(crate) const FORMAT_HELP: &str =
-    "Print the answer as `text`, for scripts, as `gcc`, each directive at its file and line, or as `json` [default: gcc on a terminal, else text]";
+    "Print the answer as `text`, for scripts, as `gcc`, each directive at its file and line, as `json`, or as `dot`, for graphviz [default: gcc on a terminal, else text]";
+
+pub(crate) const MAX_HELP: &str =
+    "Print at most N chains and N sources, and how many more there are, in the formats text and gcc";
+
+pub(crate) const SCAN_FORMAT_HELP: &str =
+    "Print the directives as `text`, for scripts, as `gcc`, each at its file and line, or as `json` [default: gcc on a terminal, else text]";
 
 pub(crate) const ALL_HELP: &str = "With the format gcc, show every chain in full";
 
@@ -55,7 +61,8 @@ Exit status:
   4  refused
   5  out of memory";
 
-pub(crate) const SCAN_NOTES: &str = "Print a line for each directive: its line number, then one of
+pub(crate) const SCAN_NOTES: &str =
+    "With the format text there is a line for each directive: its line number, then one of
 
   quoted NAME   #include \"NAME\"
   angled NAME   #include <NAME>
@@ -173,7 +180,9 @@ and below it the file that it includes. Files are named as for `incut why`:
   include/net.h
 
 They are in the order of the files, and in a file from the top. After them come `missing` and
-`blocked`, as `incut why` prints them.
+`blocked`, as `incut why` prints them. --format dot draws them:
+
+  incut graph -I include --format dot | dot -Tsvg > includes.svg
 
 Sources are the .c files of the project, or those that --from stands for. The globs are those of
 `incut why`:

@@ -43,7 +43,7 @@ fn read_matches<'a>(alloc: Global, matches: &ArgMatches<'a>) -> Result<Arguments
             follows: is_given(inner, "follow"),
         }),
         None => Ok(Arguments {
-            request: Request::Scan(None),
+            request: Request::Scan(None, None),
             languages: read_languages(matches, None),
             is_quiet: false,
             follows: false,
@@ -89,7 +89,7 @@ fn read_request<'a>(
     match name {
         "why" => Ok(Request::Why(read_question(alloc, matches)?, read_format(matches, "all"))),
         "who" => Ok(Request::Who(read_who(alloc, matches)?, read_format(matches, "chains"))),
-        "graph" => Ok(Request::Graph(read_who(alloc, matches)?)),
+        "graph" => Ok(Request::Graph(read_who(alloc, matches)?, read_format(matches, "all"))),
         "cut" => Ok(Request::Cut(
             read_question(alloc, matches)?,
             read_limits(alloc, matches)?,
@@ -101,7 +101,7 @@ fn read_request<'a>(
             value(matches, "CERT"),
         )),
         "pp" => Ok(Request::Pp(read_pp(alloc, matches)?)),
-        _ => Ok(Request::Scan(given(matches, "PATH"))),
+        _ => Ok(Request::Scan(given(matches, "PATH"), given(matches, "format"))),
     }
 }
 
@@ -194,6 +194,7 @@ fn read_format<'a>(matches: &ArgMatches<'a>, all: &str) -> FormatArgs<'a>
     FormatArgs {
         name: given(matches, "format"),
         all: is_given(matches, all),
+        most: given(matches, "max"),
     }
 }
 

@@ -25,14 +25,14 @@ pub struct LanguageArgs {
 /// A command with its arguments.
 #[derive(Drop)]
 pub enum Request<'a> {
-    /// List the include directives of this file; of standard input where there is none.
-    Scan(Option<&'a str>),
+    /// List the include directives of this file, of standard input where there is none, in the format of this name.
+    Scan(Option<&'a str>, Option<&'a str>),
     /// Explain why a source includes a header.
     Why(QuestionArgs<'a>, FormatArgs<'a>),
     /// List the sources that reach a header, with their chains whole or without.
     Who(QuestionArgs<'a>, FormatArgs<'a>),
     /// List the edges that sources reach.
-    Graph(QuestionArgs<'a>),
+    Graph(QuestionArgs<'a>, FormatArgs<'a>),
     /// Find the fewest include directives to remove so that a source no longer includes a header.
     Cut(QuestionArgs<'a>, LimitArgs<'a>, FormArgs<'a>),
     /// Check this certificate of such a cut.
@@ -112,6 +112,8 @@ pub struct FormatArgs<'a> {
     pub name: Option<&'a str>,
     /// Whether each chain is shown whole.
     pub all: bool,
+    /// How many chains and sources are printed at most, if that is given.
+    pub most: Option<&'a str>,
 }
 
 /// The words of a preprocessing of sources of a project.

@@ -1,12 +1,14 @@
 -- The commands that ask about sources and headers.
-use Rattle.std.specs.Prelude.{ℕ, Bool, true, false, List, Option, Some, None}
+use Rattle.std.specs.Prelude.{ℕ, Bool, true, false, List, Option, Some, None, if◌then◌else◌}
+use Rattle.inc_report.specs.NamedText.{asks_headers}
 use Rattle.inc_report.specs.declared.named.NamedForm.{NamedForm}
 
 -- what is asked about a source and a header
 pub data Command : Type 0 where
-  Why : Command
-  -- with the chains, or without
-  Who : (with_chains : Bool) → Command
+  -- at most so many chains are printed
+  Why : (most : Option ℕ) → Command
+  -- with the chains, or without; at most so many are printed, and so many sources
+  Who : (with_chains : Bool) → (most : Option ℕ) → Command
   -- about sources alone
   Graph : Command
   Cut : Command
@@ -14,10 +16,16 @@ pub data Command : Type 0 where
   Blank : Command
   -- for the diff that removes its directives
   Patch : Command
-  -- why, or which directives to remove, with directives as they are written
+  -- why, which edges, or which directives to remove, with directives as they are written
   Named : NamedForm → Command
   -- of the certificate that this word names
   Check : (name : List ℕ) → Command
+
+-- with at most so many chains
+abbrev pub bounded : (most : Option ℕ) → Command → Command
+bounded most (Why old) = Why most
+bounded most (Who with_chains old) = Who with_chains most
+bounded most command = command
 
 -- the word that names a certificate
 abbrev pub certificate_of : Command → Option (List ℕ)
@@ -27,9 +35,9 @@ certificate_of _ = None
 -- whether it is about headers, too
 abbrev pub has_headers : Command → Bool
 has_headers Graph = false
+has_headers (Named form) = asks_headers form.asked
 has_headers _ = true
 
 -- the paths of the headers, where it is about some
 abbrev pub headers_of : Command → (to : List (List ℕ)) → Option (List (List ℕ))
-headers_of Graph to = None
-headers_of _ to = Some to
+headers_of command to = if has_headers command then Some to else None

@@ -7,19 +7,22 @@ use Rattle.inc_text.specs.declared.languages.Language.{Language}
 use Rattle.inc_args.specs.Meaning as args
 use Rattle.inc_args.specs.Meaning.{Meaning, meaning}
 use Rattle.inc_args.specs.Refusals.{refusals}
+use Rattle.inc_check.specs.Reading.{number_in}
 use Rattle.inc_inputs.specs.Inputs.{Begins, Gives, Puts}
 use Rattle.inc_report.specs.declared.named.Asked.{Asked}
 use Rattle.inc_report.specs.declared.named.Asked.TheVariants as asked
 use Rattle.inc_report.specs.declared.named.Format.{Format}
-use Rattle.inc_report.specs.declared.named.Format.TheVariants.{Gcc, Json}
-use Rattle.inc_cli.specs.Commands.{Blank, Check, Command, Cut, Graph, Named, Patch, Who, Why}
+use Rattle.inc_report.specs.declared.named.Format.TheVariants.{Gcc, Json, Dot}
+use Rattle.inc_report.specs.declared.scan.ScanForm.{ScanForm}
+use Rattle.inc_report.specs.declared.scan.ScanForm.TheVariants as form
+use Rattle.inc_cli.specs.Commands.{Blank, Check, Command, Cut, Graph, Named, Patch, Who, Why, bounded}
 use Rattle.inc_cli.specs.Languages.{language_of}
 use Rattle.inc_cli.specs.Notes.{notes_if}
 use Rattle.inc_cli.specs.Outputs.{Answer, Follows, IsRun, Output}
 use Rattle.inc_cli.specs.Preprocessings.{IsPreprocessed, pp_of}
 use Rattle.inc_cli.specs.Questions.{IsAsked, Known, Content, Promise, Opens}
 use Rattle.inc_inputs.specs.Ends.{are_ends}
-use Rattle.inc_inputs.specs.Reports.{Report, format_of_files, no_format, no_headers, report_line, two_forms}
+use Rattle.inc_inputs.specs.Reports.{Report, format_of_files, no_format, no_headers, no_most, no_scan_format, report_line, two_forms}
 use Rattle.inc_cli.specs.Runs.{asked_of, no_limits}
 use Rattle.inc_cli.specs.Scans.{IsScan}
 use Rattle.inc_cli.specs.Statuses.{status_of}
@@ -35,25 +38,50 @@ IsAskedBy known gives o language command q l = IsAsked gives o command (asked_of
 
 -- the format with this name in which directives stand as they are written
 abbrev pub format_named : (name : List ℕ) → Option Format
-format_named name = if bytes_eq name (codes "gcc") then Some Gcc else if bytes_eq name (codes "json") then Some Json else None
+format_named name =
+    if bytes_eq name (codes "gcc") then Some Gcc else
+    if bytes_eq name (codes "json") then Some Json else
+    if bytes_eq name (codes "dot") then Some Dot else None
 
 -- the command that answers in this format, if it is one
-abbrev pub named_in : Option Format → (all : Bool) → Asked → Result Command Report
-named_in None all asked = Err no_format
-named_in (Some format) all asked = Ok (Named (record { asked = asked; format = format; all = all }))
+abbrev pub named_in : Option Format → (all : Bool) → (most : Option ℕ) → Asked → Result Command Report
+named_in None all most asked = Err no_format
+named_in (Some format) all most asked = Ok (Named (record { asked = asked; format = format; all = all; most = most }))
 
 -- the command whose answer is printed in a format: the text of old, or with directives as they are written
-abbrev pub in_format : (name : List ℕ) → (all : Bool) → (text : Command) → Asked → Result Command Report
-in_format name all text asked =
-    if bytes_eq name (codes "text") then Ok text else named_in (format_named name) all asked
+abbrev pub in_format : (name : List ℕ) → (all : Bool) → (most : Option ℕ) → (text : Command) → Asked → Result Command Report
+in_format name all most text asked =
+    if bytes_eq name (codes "text") then Ok (bounded most text) else named_in (format_named name) all most asked
+
+-- how many chains are printed at most
+abbrev pub most_in : Option ℕ → Result (Option ℕ) Report
+most_in None = Err no_most
+most_in (Some n) = Ok (Some n)
+
+abbrev pub most_of : (word : Option (List ℕ)) → Result (Option ℕ) Report
+most_of None = Ok None
+most_of (Some word) = most_in (number_in word)
 
 -- where none is named, on a terminal with directives as they are written
 abbrev pub default_format : (is_terminal : Bool) → List ℕ
 default_format true = codes "gcc"
 default_format false = codes "text"
 
+-- the form of this name in which directives are listed
+abbrev pub scan_form_named : (name : List ℕ) → Result ScanForm Report
+scan_form_named name =
+    if bytes_eq name (codes "text") then Ok form.Text else if bytes_eq name (codes "gcc") then Ok form.Gcc else
+    if bytes_eq name (codes "json") then Ok form.Json else Err no_scan_format
+
+abbrev pub scan_form : (is_terminal : Bool) → (name : Option (List ℕ)) → Result ScanForm Report
+scan_form is_terminal name = scan_form_named (unwrap_or name (default_format is_terminal))
+
+abbrev pub formatted_by : (is_terminal : Bool) → args.Format → (text : Command) → Asked → Result (Option ℕ) Report → Result Command Report
+formatted_by is_terminal f text asked (Err report) = Err report
+formatted_by is_terminal f text asked (Ok most) = in_format (unwrap_or f.name (default_format is_terminal)) f.is_all most text asked
+
 abbrev pub formatted : (is_terminal : Bool) → args.Format → (text : Command) → Asked → Result Command Report
-formatted is_terminal f text asked = in_format (unwrap_or f.name (default_format is_terminal)) f.is_all text asked
+formatted is_terminal f text asked = formatted_by is_terminal f text asked (most_of f.most)
 
 -- the form of a cut that flags ask for, of which they may ask for one, which has no other format
 abbrev pub of_files : args.Format → Command → Result Command Report
@@ -66,16 +94,18 @@ form_of is_terminal f =
 
 -- which sources reach the headers that words name
 abbrev pub who_of : (is_terminal : Bool) → args.Question → args.Format → Result Command Report
-who_of is_terminal q f = if are_ends q then formatted is_terminal f (Who f.is_all) asked.Who else Err no_headers
+who_of is_terminal q f = if are_ends q then formatted is_terminal f (Who f.is_all None) asked.Who else Err no_headers
 
 -- what words ask for is answered
 abbrev pub IsAnswerTo : {S T : Type 0} → Gives S → Puts S → Opens S T → Language → (is_terminal : Bool) → args.Asked → (old : S) → Output → Result Answer Report → Type 0
-IsAnswerTo gives puts o language is_terminal (args.Scan path) old out answer = IsScan gives language path old out answer
+IsAnswerTo gives puts o language is_terminal (args.Scan path format) old out answer =
+    Follows (λ form. IsScan gives language form path) (scan_form is_terminal format) old out answer
 IsAnswerTo gives puts o language is_terminal (args.Why q f) old out answer =
-    Follows (λ command. IsAskedBy Content gives o language command q no_limits) (formatted is_terminal f Why asked.Why) old out answer
+    Follows (λ command. IsAskedBy Content gives o language command q no_limits) (formatted is_terminal f (Why None) asked.Why) old out answer
 IsAnswerTo gives puts o language is_terminal (args.Who q f) old out answer =
     Follows (λ command. IsAskedBy Content gives o language command q no_limits) (who_of is_terminal q f) old out answer
-IsAnswerTo gives puts o language is_terminal (args.Graph q) old out answer = IsAskedBy Content gives o language Graph q no_limits old out answer
+IsAnswerTo gives puts o language is_terminal (args.Graph q f) old out answer =
+    Follows (λ command. IsAskedBy Content gives o language command q no_limits) (formatted is_terminal f Graph asked.Graph) old out answer
 IsAnswerTo gives puts o language is_terminal (args.Cut q l f) old out answer =
     Follows (λ command. IsAskedBy Content gives o language command q l) (form_of is_terminal f) old out answer
 IsAnswerTo gives puts o language is_terminal (args.Check q l name) old out answer = IsAskedBy Content gives o language (Check name) q l old out answer

@@ -5,12 +5,11 @@ use Rattle.inc_text.specs.declared.devices.ReadFault.{ReadFault}
 use Rattle.inc_text.specs.declared.devices.ReadFault.TheVariants.{TooLong}
 use Rattle.inc_text.specs.declared.languages.Language.{Language}
 use Rattle.inc_report.specs.Printed.{Printed}
-use Rattle.inc_report.specs.Refusals as refusals
-use Rattle.inc_report.specs.Refusals.{refusal}
-use Rattle.inc_report.specs.ScanText.{scan}
+use Rattle.inc_report.specs.ScanForms.{scan, too_long}
 use Rattle.inc_report.specs.Writing.{Writes, is_own}
 use Rattle.inc_report.specs.declared.outcome.End.{End}
 use Rattle.inc_report.specs.declared.outcome.RunFault.{RunFault}
+use Rattle.inc_report.specs.declared.scan.ScanForm.{ScanForm}
 use Rattle.inc_inputs.specs.Inputs.{FileAt, Gives, Input, StandardInput}
 use Rattle.inc_inputs.specs.declared.failures.Hindrance.TheVariants.{Other}
 use Rattle.inc_cli.specs.Outputs.{Answer, Output, ended}
@@ -36,16 +35,16 @@ IsOut p out answer =
     × IfErr result (λ fault. is_own fault ≡ true)
 
 -- what is printed where it was not read. Standard input that is too long is refused as a source is
-abbrev pub IsUnread : Option (List ℕ) → ReadFault → Output → Result Answer Report → Type 0
-IsUnread None TooLong out answer = IsOut (refusal refusals.TooLong) out answer
-IsUnread path fault out answer = (answer ≡ Err (read_report fault (scanned_name path))) × Keeps out.before out.after
+abbrev pub IsUnread : ScanForm → Option (List ℕ) → ReadFault → Output → Result Answer Report → Type 0
+IsUnread form None TooLong out answer = IsOut (too_long form) out answer
+IsUnread form path fault out answer = (answer ≡ Err (read_report fault (scanned_name path))) × Keeps out.before out.after
 
 -- what is printed of the answer of a reading
-abbrev pub IsScanOf : Language → Option (List ℕ) → Result (List ℕ) ReadFault → Output → Result Answer Report → Type 0
-IsScanOf language path (Ok bytes) out answer = IsOut (scan language (scanned_name path) (scanned_title path) bytes) out answer
-IsScanOf language path (Err fault) out answer = IsUnread path fault out answer
+abbrev pub IsScanOf : Language → ScanForm → Option (List ℕ) → Result (List ℕ) ReadFault → Output → Result Answer Report → Type 0
+IsScanOf language form path (Ok bytes) out answer = IsOut (scan form language (scanned_name path) (scanned_title path) bytes) out answer
+IsScanOf language form path (Err fault) out answer = IsUnread form path fault out answer
 
 -- the file is read, and its directives are listed
-abbrev pub IsScan : {S : Type 0} → Gives S → Language → Option (List ℕ) → (old : S) → Output → Result Answer Report → Type 0
-IsScan {S} gives language path old out answer =
-    (x : Result (List ℕ) ReadFault) × (new : S) × gives old (scanned path) x new × IsScanOf language path x out answer
+abbrev pub IsScan : {S : Type 0} → Gives S → Language → ScanForm → Option (List ℕ) → (old : S) → Output → Result Answer Report → Type 0
+IsScan {S} gives language form path old out answer =
+    (x : Result (List ℕ) ReadFault) × (new : S) × gives old (scanned path) x new × IsScanOf language form path x out answer

@@ -21,8 +21,8 @@ abbrev pub seen_end : Result code.Answer Failure → Result Answer Report
 seen_end result = seen answer_in result
 
 abbrev pub seen_command : Command → commands.Command
-seen_command command.Why = commands.Why
-seen_command (command.Who with_chains) = commands.Who with_chains
+seen_command (command.Why most) = commands.Why most
+seen_command (command.Who with_chains most) = commands.Who with_chains most
 seen_command command.Graph = commands.Graph
 seen_command command.Cut = commands.Cut
 seen_command command.Blank = commands.Blank

@@ -4,7 +4,7 @@ ghost use Rattle.inc_args.specs.Views.{seen_limits, seen_question};
 ghost use Rattle.inc_inputs.specs.Ends.{are_ends, asked_ends};
 ghost use Rattle.inc_inputs.specs.HeaderNames.{header_notes};
 ghost use Rattle.inc_inputs.specs.Inputs.{listed};
-ghost use Rattle.inc_cli.specs.Commands.{certificate_of, has_headers, headers_of};
+ghost use Rattle.inc_cli.specs.Commands.{bounded, certificate_of, has_headers, headers_of};
 ghost use Rattle.inc_cli.specs.Outputs.{ended};
 ghost use Rattle.inc_cli.specs.Questions.{IsAnswered, IsAsked, IsKnown, Known, Prints};
 ghost use Rattle.inc_inputs.specs.Reports.{out_of_memory, report_of};
@@ -41,10 +41,10 @@ use std::mem::replace;
 /// What is asked about sources and headers.
 #[derive(Clone, Copy)]
 pub(crate) enum Command<'a> {
-    /// Why the sources include the headers.
-    Why,
-    /// Which sources include the headers, with their chains or without.
-    Who(bool),
+    /// Why the sources include the headers, by at most so many chains.
+    Why(Option<usize>),
+    /// Which sources include the headers, with their chains or without, and at most so many of them.
+    Who(bool, Option<usize>),
     /// Which edges the sources reach, whatever the headers are.
     Graph,
     /// Which include directives to remove so that they no longer do.
@@ -53,13 +53,24 @@ pub(crate) enum Command<'a> {
     Blank,
     /// For the diff that removes its directives.
     Patch,
-    /// Why the sources include the headers, or which directives to remove, with directives as they are written.
+    /// Why the sources include the headers, which edges they reach, or which directives to remove, with directives as they are written.
     Named(NamedForm),
     /// Whether the certificate that this word names shows a smallest cut.
     Check(&'a str),
 }
 
 impl<'a> Command<'a> {
+    /// The same command with at most so many chains.
+    pub(crate) fn bounded(self, most: Option<usize>) -> Command<'a>
+        ensures { seen_command result ≡ bounded most (seen_command self.entry) }
+    {
+        match self {
+            Command::Why(_) => Command::Why(most),
+            Command::Who(with_chains, _) => Command::Who(with_chains, most),
+            other => other,
+        }
+    }
+
     /// The word that names the certificate.
     fn certificate(self) -> Option<&'a str>
         ensures { option_map (λ n. n.now) result ≡ certificate_of (seen_command self.entry) }
@@ -76,6 +87,7 @@ impl<'a> Command<'a> {
     {
         match self {
             Command::Graph => false,
+            Command::Named(form) => form.asked.has_headers(),
             _ => true,
         }
     }
@@ -85,10 +97,10 @@ impl<'a> Command<'a> {
         ensures { option_map (λ ps. map (λ p. p.now) ps.now) result
             ≡ headers_of (seen_command self.entry) (map (λ p. p.now) to.entry.now) }
     {
-        match self {
-            Command::Graph => None,
-            _ => Some(to),
+        if self.has_headers() {
+            return Some(to);
         }
+        None
     }
 }
 
@@ -429,9 +441,9 @@ fn answer<I: Inputs, O: ByteSink>(
 {
     let mut files = files;
     match command {
-        Command::Why => run_why(alloc, project, &mut files, question, out),
-        Command::Who(with_chains) => {
-            run_who(alloc, project, &mut files, question, with_chains, out)
+        Command::Why(most) => run_why(alloc, project, &mut files, question, most, out),
+        Command::Who(with_chains, most) => {
+            run_who(alloc, project, &mut files, question, with_chains, most, out)
         }
         Command::Graph => run_graph(alloc, project, &mut files, question, out),
         Command::Cut => run_cut(alloc, project, &mut files, question, limits, out),

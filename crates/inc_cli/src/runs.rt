@@ -5,7 +5,7 @@ ghost use Rattle.inc_args.specs.CompilerWords.{as_options};
 ghost use Rattle.inc_args.specs.Meaning.{meaning};
 ghost use Rattle.inc_args.specs.Views.{seen_arguments, seen_format, seen_forms, seen_languages, seen_question, seen_request};
 ghost use Rattle.inc_cli.specs.Languages.{language_of};
-ghost use Rattle.inc_cli.specs.Processes.{default_format, form_of, format_named, formatted, of_files, who_of, IsAnswer, IsAnswerFrom, IsAnswerTo, IsPromise, IsPromiseFrom, IsPromiseOf, IsRefusedRun, IsTold, IsToldRun};
+ghost use Rattle.inc_cli.specs.Processes.{default_format, form_of, format_named, formatted, in_format, most_of, of_files, scan_form, who_of, IsAnswer, IsAnswerFrom, IsAnswerTo, IsPromise, IsPromiseFrom, IsPromiseOf, IsRefusedRun, IsTold, IsToldRun};
 ghost use Rattle.inc_inputs.specs.Reports.{out_of_memory};
 ghost use Rattle.inc_cli.specs.Views.{output_of, seen_command, seen_end};
 ghost use Rattle.inc_inputs.specs.Views.{seen};
@@ -21,8 +21,9 @@ use inc_args::{
     ArgsFault, Arguments, FormArgs, FormatArgs, LanguageArgs, LimitArgs, QuestionArgs, Request,
     as_options, read_args,
 };
+use inc_check::number_in;
 use inc_inputs::{Failure, Hindrance, Inputs, are_ends};
-use inc_report::{Asked, Format, NamedForm};
+use inc_report::{Asked, Format, NamedForm, ScanForm};
 use inc_text::{ByteSink, Language};
 use std::alloc::Global;
 use std::cell::Cell;
@@ -227,9 +228,12 @@ fn answer_in<I: Inputs, O: ByteSink>(
         costs: None,
     };
     match request {
-        Request::Scan(path) => list_directives(setup, *path, inputs, out),
+        Request::Scan(path, format) => match scan_form(setup.is_terminal, *format) {
+            Ok(form) => list_directives(setup, *path, form, inputs, out),
+            Err(failure) => (Err(failure), out),
+        },
         Request::Why(question, format) => {
-            match formatted(setup.is_terminal, *format, Command::Why, Asked::Why) {
+            match formatted(setup.is_terminal, *format, Command::Why(None), Asked::Why) {
                 Ok(command) => ask(setup, command, question, &no_limits, inputs, out),
                 Err(failure) => (Err(failure), out),
             }
@@ -238,8 +242,11 @@ fn answer_in<I: Inputs, O: ByteSink>(
             Ok(command) => ask(setup, command, question, &no_limits, inputs, out),
             Err(failure) => (Err(failure), out),
         },
-        Request::Graph(question) => {
-            ask(setup, Command::Graph, question, &no_limits, inputs, out)
+        Request::Graph(question, format) => {
+            match formatted(setup.is_terminal, *format, Command::Graph, Asked::Graph) {
+                Ok(command) => ask(setup, command, question, &no_limits, inputs, out),
+                Err(failure) => (Err(failure), out),
+            }
         }
         Request::Cut(question, limits, forms) => match form_of(setup.is_terminal, *forms) {
             Ok(command) => {
@@ -266,7 +273,8 @@ fn who_of(
     ensures { seen seen_command result ≡ who_of is_terminal (seen_question question.now) (seen_format format.entry) }
 {
     if are_ends(question) {
-        return formatted(is_terminal, format, Command::Who(format.all), Asked::Who);
+        let text = Command::Who(format.all, None);
+        return formatted(is_terminal, format, text, Asked::Who);
     }
     Err(Failure::NoHeaders)
 }
@@ -280,6 +288,18 @@ fn form_of(is_terminal: bool, asked: FormArgs<'_>) -> Result<Command<'static>, F
         (true, false) => of_files(asked.format, Command::Blank),
         (false, true) => of_files(asked.format, Command::Patch),
         (false, false) => formatted(is_terminal, asked.format, Command::Cut, Asked::Cut),
+    }
+}
+
+/// The form of this name in which directives are listed; where none is named, on a terminal with directives as they are written.
+fn scan_form(is_terminal: bool, name: Option<&str>) -> Result<ScanForm, Failure>
+    ensures { seen (λ f. f) result ≡ scan_form is_terminal (option_map (λ n. n.now) name.entry) }
+{
+    match name.unwrap_or(default_format(is_terminal)) {
+        "text" => Ok(ScanForm::Text),
+        "gcc" => Ok(ScanForm::Gcc),
+        "json" => Ok(ScanForm::Json),
+        _ => Err(Failure::NoScanFormat),
     }
 }
 
@@ -303,15 +323,47 @@ fn formatted(
 ) -> Result<Command<'static>, Failure>
     ensures { seen seen_command result ≡ formatted is_terminal (seen_format format.entry) (seen_command text.entry) asked }
 {
-    let name = format.name.unwrap_or(default_format(is_terminal));
+    match most_of(format.most) {
+        Ok(most) => {
+            let name = format.name.unwrap_or(default_format(is_terminal));
+            in_format(name, format.all, most, text, asked)
+        }
+        Err(failure) => Err(failure),
+    }
+}
+
+/// How many chains are printed at most.
+fn most_of(word: Option<&str>) -> Result<Option<usize>, Failure>
+    ensures { seen (λ most. most) result ≡ most_of (option_map (λ w. w.now) word.entry) }
+{
+    let Some(word) = word else {
+        return Ok(None);
+    };
+    match number_in(word.as_bytes()) {
+        Some(most) => Ok(Some(most as usize)),
+        None => Err(Failure::NoMost),
+    }
+}
+
+/// The command whose answer is in the format with this name.
+fn in_format(
+    name: &str,
+    all: bool,
+    most: Option<usize>,
+    text: Command<'static>,
+    asked: Asked,
+) -> Result<Command<'static>, Failure>
+    ensures { seen seen_command result ≡ in_format name.now all most (seen_command text.entry) asked }
+{
     if name == "text" {
-        return Ok(text);
+        return Ok(text.bounded(most));
     }
     match format_named(name) {
-        Some(named) => Ok(Command::Named(NamedForm {
+        Some(format) => Ok(Command::Named(NamedForm {
             asked,
-            format: named,
-            all: format.all,
+            format,
+            all,
+            most,
         })),
         None => Err(Failure::NoFormat),
     }
@@ -326,6 +378,9 @@ fn format_named(name: &str) -> Option<Format>
     }
     if name == "json" {
         return Some(Format::Json);
+    }
+    if name == "dot" {
+        return Some(Format::Dot);
     }
     None
 }

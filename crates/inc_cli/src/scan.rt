@@ -9,7 +9,7 @@ use crate::answers::Answer;
 use crate::questions::end_of;
 use crate::runs::Setup;
 use inc_inputs::{Failure, Hindrance, Inputs, unread};
-use inc_report::{run_scan_owned, run_scan_too_long};
+use inc_report::{ScanForm, run_scan_owned, run_scan_too_long};
 use inc_text::{ByteSink, ReadFault};
 use std::alloc::Global;
 
@@ -17,17 +17,18 @@ use std::alloc::Global;
 pub(crate) fn list_directives<I: Inputs, O: ByteSink>(
     setup: &Setup<'_>,
     path: Option<&str>,
+    form: ScanForm,
     inputs: I,
     out: O,
 ) -> (Result<Answer, Failure>, O)
     requires { O.has_failed out ≡ false }
     ensures { seen_end result.0 ≢ Err out_of_memory →
-        IsScan I.gives setup.now.language (option_map (λ p. p.now) path.entry) inputs
+        IsScan I.gives setup.now.language form (option_map (λ p. p.now) path.entry) inputs
         (output_of (O.written out) (O.written result.1) (O.has_failed result.1)) (seen_end result.0) }
 {
     let mut inputs = inputs;
     let source = read_scanned(setup.alloc, &mut inputs, path);
-    print_directives(setup, path, source, out)
+    print_directives(setup, path, form, source, out)
 }
 
 /// The bytes of a file; of standard input where there is no path.
@@ -48,12 +49,13 @@ fn read_scanned<I: Inputs>(
 fn print_directives<O: ByteSink>(
     setup: &Setup<'_>,
     path: Option<&str>,
+    form: ScanForm,
     source: Result<Vec<u8>, ReadFault>,
     out: O,
 ) -> (Result<Answer, Failure>, O)
     requires { O.has_failed out ≡ false }
     ensures { seen_end result.0 ≢ Err out_of_memory →
-        IsScanOf setup.now.language (option_map (λ p. p.now) path.entry) (seen_answer source)
+        IsScanOf setup.now.language form (option_map (λ p. p.now) path.entry) (seen_answer source)
         (output_of (O.written out) (O.written result.1) (O.has_failed result.1)) (seen_end result.0) }
 {
     let alloc = setup.alloc;
@@ -61,7 +63,15 @@ fn print_directives<O: ByteSink>(
     let title = path.unwrap_or("<stdin>").as_bytes();
     match source {
         Ok(source) => {
-            let (ended, out) = run_scan_owned(alloc, name, title, source, setup.language, out);
+            let (ended, out) = run_scan_owned(
+                alloc,
+                name,
+                title,
+                source,
+                setup.language,
+                form,
+                out,
+            );
             (
                 end_of(alloc, ended, Vec::new(alloc), &[], "", Hindrance::Other),
                 out,
@@ -69,7 +79,7 @@ fn print_directives<O: ByteSink>(
         }
         // Standard input is no file: what is too long is refused, as a source that is handed in.
         Err(ReadFault::TooLong) if path.is_none() => {
-            let (ended, out) = run_scan_too_long(alloc, out);
+            let (ended, out) = run_scan_too_long(alloc, form, out);
             (
                 end_of(alloc, ended, Vec::new(alloc), &[], "", Hindrance::Other),
                 out,

@@ -72,7 +72,7 @@ left_one : (defines : Bool) (text : List ℕ) (ms : List (Kind × List ℕ)) (wo
 left_one false text ms words rest =
     ap (λ (vs : List (List ℕ)). filter (stays (with_name text (undefined_in ms))) words ++ reverse vs) (append-nil (kept_in ms))
     ∙ ap (λ (vs : List (List ℕ)). vs ++ reverse (kept_in ms))
-      (filter_both (is_other text) (stays (undefined_in ms)) (stays (with_name text (undefined_in ms))) (stays_with text (undefined_in ms)) words)
+    (filter_both (is_other text) (stays (undefined_in ms)) (stays (with_name text (undefined_in ms))) (stays_with text (undefined_in ms)) words)
     ∙ rest (filter (is_other text) words)
 left_one true text ms words rest =
     let p = stays (undefined_in ms) in

@@ -77,7 +77,13 @@ abbrev pub format_of_files : Report
 format_of_files = record { message = codes "--format excludes --blank and --patch"; status = 2 }
 
 abbrev pub no_format : Report
-no_format = record { message = codes "--format is text, gcc or json"; status = 2 }
+no_format = record { message = codes "--format is text, gcc, json or dot"; status = 2 }
+
+abbrev pub no_most : Report
+no_most = record { message = codes "--max is a number"; status = 2 }
+
+abbrev pub no_scan_format : Report
+no_scan_format = record { message = codes "--format of scan is text, gcc or json"; status = 2 }
 
 abbrev pub two_languages : Report
 two_languages = record { message = codes "--extended and --gnu exclude each other"; status = 2 }
@@ -141,6 +147,8 @@ report_of failure.InputTwice = input_twice
 report_of failure.TwoForms = two_forms
 report_of failure.FormatOfFiles = format_of_files
 report_of failure.NoFormat = no_format
+report_of failure.NoMost = no_most
+report_of failure.NoScanFormat = no_scan_format
 report_of failure.TwoLanguages = two_languages
 report_of failure.TwoLists = two_lists
 report_of failure.NoEnds = no_ends

@@ -132,11 +132,7 @@ struct Kept<'a> {
 }
 
 /// What is left of all of them. From the last word on it is known of each definition whether it is taken away.
-fn kept_of<'a>(
-    alloc: Global,
-    seed: u64,
-    macros: &'a [MacroWord],
-) -> Result<Kept<'a>, AllocError>
+fn kept_of<'a>(alloc: Global, seed: u64, macros: &'a [MacroWord]) -> Result<Kept<'a>, AllocError>
     ensures undefined { IfOk result (λ k. k.undefined.keys ≡ undefined_in (map macro_of macros.entry.now)) }
     ensures words { IfOk result (λ k. map (λ w. w.now) k.words.items ≡ kept_in (map macro_of macros.entry.now)) }
 {

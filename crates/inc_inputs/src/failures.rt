@@ -65,6 +65,10 @@ pub enum Failure {
     FormatOfFiles,
     /// A format has a name that none has.
     NoFormat,
+    /// The same of `scan`.
+    NoScanFormat,
+    /// How many chains are printed at most is no number.
+    NoMost,
     /// The files are said to be in two languages.
     TwoLanguages,
     /// The files are listed, and are to be found below folders.
@@ -331,7 +335,9 @@ impl Failure {
             Failure::OneFile => (b"--deps and --status name one file", b""),
             Failure::TwoForms => (b"--blank and --patch exclude each other", b""),
             Failure::FormatOfFiles => (b"--format excludes --blank and --patch", b""),
-            Failure::NoFormat => (b"--format is text, gcc or json", b""),
+            Failure::NoFormat => (b"--format is text, gcc, json or dot", b""),
+            Failure::NoMost => (b"--max is a number", b""),
+            Failure::NoScanFormat => (b"--format of scan is text, gcc or json", b""),
             Failure::TwoLanguages => (b"--extended and --gnu exclude each other", b""),
             Failure::TwoLists => (b"--files and --root exclude each other", b""),
             Failure::NoEnds => (b"name SOURCE and HEADER, or give --from and --to", b""),
@@ -359,6 +365,8 @@ impl Failure {
             | Failure::TwoForms
             | Failure::FormatOfFiles
             | Failure::NoFormat
+            | Failure::NoMost
+            | Failure::NoScanFormat
             | Failure::TwoLanguages
             | Failure::TwoLists
             | Failure::NoEnds

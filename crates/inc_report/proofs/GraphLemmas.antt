@@ -1,5 +1,5 @@
 -- The edges of a graph as they are printed.
-use Rattle.std.proofs.Common.{◌≡◌, ℕ, ◌+◌, ◌<◌, List, [], ◌∷◌, ◌++◌, length, get_or, refl, ap, subst, arith}
+use Rattle.std.proofs.Common.{◌≡◌, ℕ, ◌+◌, ◌<◌, List, [], ◌∷◌, ◌++◌, length, map, get_or, refl, ap, subst, arith}
 use Rattle.std.specs.Prelude.{flat_map}
 use Rattle.std.specs.List.{All}
 use Rattle.std.proofs.lemmas.List.{get_or_default}
@@ -18,7 +18,11 @@ pub flat_map-numbered : (f : Edge → List ℕ) (n : ℕ) (es : List Edge) → f
 flat_map-numbered f n [] = refl
 flat_map-numbered f n (e ∷ es) = ap (λ (ys : List ℕ). f e ++ ys) (flat_map-numbered f (n + 1) es)
 
-to-within : (g : Graph) (i : ℕ) (e : declared.Edge) → IsSound g → i < length g.edges → e ≡ get_or (numbered g.edges) i e → e.to < g.files
+pub map-numbered : {A : Type 0} (f : Edge → A) (n : ℕ) (es : List Edge) → map (λ (e : declared.Edge). f (seen_edge e)) (numbered_from n es) ≡ map f es
+map-numbered f n [] = refl
+map-numbered f n (e ∷ es) = ap (λ ys. f e ∷ ys) (map-numbered f (n + 1) es)
+
+pub to-within : (g : Graph) (i : ℕ) (e : declared.Edge) → IsSound g → i < length g.edges → e ≡ get_or (numbered g.edges) i e → e.to < g.files
 to-within g i e sound low is =
     let at = get_or_from_slice_get g.edges i (seen_edge e) (seen_edge e) (numbered_from-at 0 g.edges i e low is) in
     let inner : IsInner g.files g.headers (get_or g.edges i (seen_edge e)) = sound.inner i (seen_edge e) low in

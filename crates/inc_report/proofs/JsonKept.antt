@@ -13,7 +13,7 @@ use Rattle.inc_graph.specs.IncludeGraph.{Edge, Graph}
 use Rattle.inc_graph.specs.MissingLists.{Missing}
 use Rattle.inc_graph.specs.Reaching.{Reaching}
 use Rattle.inc_graph.specs.declared.graphs.Blocker.{Blocker}
-use Rattle.inc_report.specs.JsonAnswers.{About, blocked_text, blocker_text, blockers_text, chain_if, chains_text, counted_item, counted_text, cut_json, edge_text, edges_text, file_member, fixed_json, found_text, from_text, front_text, missing_item, missing_text, named_form, names_text, numbered_text, place_text, sets_ends, shortest_text, source_item, sources_text, to_text, who_json, why_ends, why_json}
+use Rattle.inc_report.specs.JsonAnswers.{About, blocked_text, blocker_text, blockers_text, chain_if, chains_text, counted_item, counted_text, cut_json, edge_text, edges_text, file_member, fixed_json, found_text, from_text, front_text, graph_json, links_text, missing_item, missing_text, named_form, names_text, numbered_text, place_text, sets_ends, shortest_text, source_item, sources_text, to_text, who_json, why_ends, why_json}
 use Rattle.inc_report.specs.JsonDirectives.{directive_text}
 use Rattle.inc_report.specs.JsonTexts.{bytes_member, list_of, number_member}
 use Rattle.inc_report.specs.MissingNames.{MissingName, counted_once_more, first_named, missing_names, spelled, with_missing}
@@ -152,6 +152,21 @@ module _ (layout : Layout) (g : Graph) (k l : DirectiveId → LineKind) where
     who_same all rs chains =
         ap₂ (λ (front missing : List ℕ). who_ends front missing (sources_text all (by k) rs)) (front_same (codes "who") chains) missing_same
         ∙ ap (who_ends (front_text (codes "who") (by l) chains) (missing_text (by l))) (sources_same all rs)
+
+    links_same : links_text (by k) g.edges ≡ links_text (by l) g.edges
+    links_same =
+        ap list_of (map_same (edge_text (by k)) (edge_text (by l)) g.edges (λ i e low. place_same (get_or g.edges i e).from (get_or g.edges i e).line (Some (get_or g.edges i e).to) (same.edges i e low)))
+
+    graph_ends : (blocked links missing : List ℕ) → List ℕ
+    graph_ends blocked links missing =
+        codes "{\"blocked\":" ++ blocked ++ codes ",\"command\":\"graph\",\"edges\":" ++ links ++ codes ",\"format\":1," ++ from_text (by k)
+        ++ codes ",\"missing\":" ++ missing ++ codes ",\"status\":0}\n"
+
+    pub graph_same : graph_json (by k) ≡ graph_json (by l)
+    unfolding graph_ends
+    graph_same =
+        ap₂ (λ (blocked links : List ℕ). graph_ends blocked links (missing_text (by k))) (blockers_same g.blockers same.blockers) links_same
+        ∙ ap (graph_ends (blocked_text (by l)) (links_text (by l) g.edges)) missing_same
 
     counted_same : (c : Counted) → counted_item (by k) c ≡ counted_item (by l) c
     counted_same c = ap (λ (chain : List ℕ). codes "{\"edges\":" ++ chain ++ codes "," ++ number_member (codes "times") c.count ++ codes "}") (edges_same c.chain)

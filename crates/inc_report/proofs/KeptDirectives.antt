@@ -1,8 +1,8 @@
 -- The files of the directives of documents are kept.
-use Rattle.std.proofs.Common.{◌≡◌, ℕ, ◌+◌, Bool, true, false, List, [], ◌∷◌, ◌++◌, Option, Some, None, cond, length, map, is_some, refl, subst}
+use Rattle.std.proofs.Common.{◌≡◌, ℕ, ◌+◌, ◌==◌, Bool, true, false, List, [], ◌∷◌, ◌++◌, Option, Some, None, cond, length, map, is_some, refl, subst}
 use Rattle.std.specs.Prelude.{flat_map, slice_get, IsTrue}
 use Rattle.std.specs.List.{All, cons_option}
-use Rattle.std.proofs.lemmas.List.Elements.{All-append, All-cons, All-head, All-map, All-nil, All-tail}
+use Rattle.std.proofs.lemmas.List.Elements.{All-append, All-cons, All-head, All-map, All-nil, All-tail, All-take}
 use Rattle.inc_lookup.specs.declared.projects.DirectiveId.{DirectiveId}
 use Rattle.inc_lookup.specs.Projects.{Layout}
 use Rattle.inc_graph.specs.Cuts.{Counted, directives_of}
@@ -10,10 +10,12 @@ use Rattle.inc_graph.specs.IncludeGraph.{Edge, Graph}
 use Rattle.inc_graph.specs.Reaching.{Reaching}
 use Rattle.inc_graph.specs.declared.graphs.Blocker.{Blocker}
 use Rattle.inc_graph.specs.declared.graphs.BlockerKind.{BlockerKind}
+use Rattle.inc_report.specs.Bounds.{first_of, left_out, more_words, shown_count}
 use Rattle.inc_report.specs.CutDocument.{chain_blocks, chains_from, cut_document, fixed_document, proof_blocks, shown_chains}
-use Rattle.inc_report.specs.Documents.{AreGraphKept, AreKept, Block, IsKept, Led, Place, Words, edge_places, listed, places}
+use Rattle.inc_report.specs.Documents.{AreGraphKept, AreKept, Block, IsKept, Led, Place, Words, edge_places, first_places, listed, more_blocks, places}
+use Rattle.inc_report.specs.GraphDocument.{graph_document, link_block}
 use Rattle.inc_report.specs.KeptFiles.{Kept, kept_at}
-use Rattle.inc_report.specs.WhoDocument.{in_blocks, led, reaching_blocks, reaching_by, who_document}
+use Rattle.inc_report.specs.WhoDocument.{in_blocks, led, reaching_blocks, reaching_by, source_blocks, who_document}
 use Rattle.inc_report.specs.WhyDocument.{blocker_blocks, blocker_if, blocker_ids, is_kind, is_same, last_of, missing_blocks, missing_id, other_blocks, other_lasts, reached_by, shortest_blocks, unresolved_blocks, way_blocks, why_document, whole_way}
 use Rattle.inc_graph.specs.declared.graphs.BlockerKind.TheVariants.{Computed, Foreign, Several}
 use Rattle.inc_report.proofs.CutDirectives.{directives_all}
@@ -34,9 +36,20 @@ module _ (kept : Kept) where
   places_kept : (ds : List DirectiveId) → All IsHeld ds → AreKept kept (places ds)
   places_kept ds held = All-map (IsKept kept) Place ds held
 
-  listed_kept : (one many : List ℕ) (ds : List DirectiveId) → All IsHeld ds → AreKept kept (listed one many ds)
-  listed_kept one many [] held = nothing
-  listed_kept one many (d ∷ ds) held = words_first _ (places (d ∷ ds)) (places_kept (d ∷ ds) held)
+  more_if : (b : Bool) (text : List ℕ) → AreKept kept (cond b [] (Words text ∷ []))
+  more_if true text = nothing
+  more_if false text = words_first text [] nothing
+
+  more_kept : (n : ℕ) → AreKept kept (more_blocks n)
+  more_kept n = more_if (n == 0) (more_words n)
+
+  first_kept : (most : Option ℕ) (ds : List DirectiveId) → All IsHeld ds → AreKept kept (first_places most ds)
+  first_kept most ds held =
+      both (places (first_of most ds)) (more_blocks (left_out most (length ds))) (places_kept (first_of most ds) (All-take IsHeld (shown_count most (length ds)) ds held)) (more_kept _)
+
+  listed_kept : (most : Option ℕ) (one many : List ℕ) (ds : List DirectiveId) → All IsHeld ds → AreKept kept (listed most one many ds)
+  listed_kept most one many [] held = nothing
+  listed_kept most one many (d ∷ ds) held = words_first _ (first_places most (d ∷ ds)) (first_kept most (d ∷ ds) held)
 
   module _ (g : Graph) (held : AreGraphKept g kept) where
     directives_held : (is : List ℕ) → All IsHeld (directives_of g is)
@@ -63,12 +76,13 @@ module _ (kept : Kept) where
     ways_kept last [] = nothing
     ways_kept last (c ∷ cs) = both (way_blocks last g c) (flat_map (way_blocks last g) cs) (way_if (is_same (last_of c) last) c) (ways_kept last cs)
 
-    others_kept : (all : Bool) (last : Option ℕ) (chains : List (List ℕ)) → AreKept kept (other_blocks all last g chains)
-    others_kept true last chains = ways_kept last chains
-    others_kept false last chains = listed_kept _ _ (directives_of g (other_lasts last chains)) (directives_held (other_lasts last chains))
+    others_kept : (all : Bool) (most last : Option ℕ) (chains : List (List ℕ)) → AreKept kept (other_blocks all most last g chains)
+    others_kept true most last chains =
+        both (flat_map (way_blocks last g) (first_of most chains)) (more_blocks (left_out most (length chains))) (ways_kept last (first_of most chains)) (more_kept _)
+    others_kept false most last chains = listed_kept most _ _ (directives_of g (other_lasts last chains)) (directives_held (other_lasts last chains))
 
     missing_kept : AreKept kept (missing_blocks g.missing)
-    missing_kept = listed_kept _ _ (map missing_id g.missing) (All-map IsHeld missing_id g.missing held.missing)
+    missing_kept = listed_kept None _ _ (map missing_id g.missing) (All-map IsHeld missing_id g.missing held.missing)
 
     blocker_next : (o : Option DirectiveId) (ds : List DirectiveId) → ((d : DirectiveId) → o ≡ Some d → IsHeld d) → All IsHeld ds → All IsHeld (cons_option o ds)
     blocker_next None ds own rest = rest
@@ -91,18 +105,18 @@ module _ (kept : Kept) where
 
     blocker_kept : AreKept kept (blocker_blocks g.blockers)
     blocker_kept =
-        both _ _ (both _ _ (listed_kept _ _ (blocker_ids Computed g.blockers) (blockers_held Computed g.blockers held.blockers))
-        (listed_kept _ _ (blocker_ids Foreign g.blockers) (blockers_held Foreign g.blockers held.blockers)))
-        (listed_kept _ _ (blocker_ids Several g.blockers) (blockers_held Several g.blockers held.blockers))
+        both _ _ (both _ _ (listed_kept None _ _ (blocker_ids Computed g.blockers) (blockers_held Computed g.blockers held.blockers))
+        (listed_kept None _ _ (blocker_ids Foreign g.blockers) (blockers_held Foreign g.blockers held.blockers)))
+        (listed_kept None _ _ (blocker_ids Several g.blockers) (blockers_held Several g.blockers held.blockers))
 
     unresolved_kept : (all : Bool) → AreKept kept (unresolved_blocks all g)
     unresolved_kept true = both (missing_blocks g.missing) (blocker_blocks g.blockers) missing_kept blocker_kept
     unresolved_kept false = blocker_kept
 
-    pub why_kept : (all : Bool) (layout : Layout) (shortest : Option (List ℕ)) (chains : List (List ℕ)) → AreKept kept (why_document all layout g shortest chains)
-    why_kept all layout None chains = words_first _ (unresolved_blocks all g) (unresolved_kept all)
-    why_kept all layout (Some chain) chains =
-        both _ _ (both (shortest_blocks layout g chain) (other_blocks all (last_of chain) g chains) (shortest_kept layout chain) (others_kept all (last_of chain) chains))
+    pub why_kept : (all : Bool) (most : Option ℕ) (layout : Layout) (shortest : Option (List ℕ)) (chains : List (List ℕ)) → AreKept kept (why_document all most layout g shortest chains)
+    why_kept all most layout None chains = words_first _ (unresolved_blocks all g) (unresolved_kept all)
+    why_kept all most layout (Some chain) chains =
+        both _ _ (both (shortest_blocks layout g chain) (other_blocks all most (last_of chain) g chains) (shortest_kept layout chain) (others_kept all most (last_of chain) chains))
         (unresolved_kept all)
 
     ---- who
@@ -120,11 +134,22 @@ module _ (kept : Kept) where
     sources_kept all layout (r ∷ rs) =
         both (reaching_blocks all layout g r) (flat_map (reaching_blocks all layout g) rs) (reaching_kept all layout r.source (slice_get r.chain 0) r.chain) (sources_kept all layout rs)
 
-    pub who_kept : (all : Bool) (layout : Layout) (rs : List Reaching) (chains : List (List ℕ)) → AreKept kept (who_document all layout g rs chains)
-    who_kept all layout rs chains =
-        words_first _ _ (both _ _ (both (flat_map (reaching_blocks all layout g) rs) (in_blocks g chains) (sources_kept all layout rs)
-        (listed_kept _ _ (directives_of g (other_lasts None chains)) (directives_held (other_lasts None chains))))
+    bounded_kept : (all : Bool) (most : Option ℕ) (layout : Layout) (rs : List Reaching) → AreKept kept (source_blocks all most layout g rs)
+    bounded_kept all most layout rs =
+        both (flat_map (reaching_blocks all layout g) (first_of most rs)) (more_blocks (left_out most (length rs))) (sources_kept all layout (first_of most rs)) (more_kept _)
+
+    pub who_kept : (all : Bool) (most : Option ℕ) (layout : Layout) (rs : List Reaching) (chains : List (List ℕ)) → AreKept kept (who_document all most layout g rs chains)
+    who_kept all most layout rs chains =
+        words_first _ _ (both _ _ (both (source_blocks all most layout g rs) (in_blocks most g chains) (bounded_kept all most layout rs)
+        (listed_kept most _ _ (directives_of g (other_lasts None chains)) (directives_held (other_lasts None chains))))
         (unresolved_kept all))
+
+    ---- graph
+
+    pub links_kept : (layout : Layout) → AreKept kept (graph_document layout g)
+    links_kept layout =
+        words_first _ (map (link_block layout) g.edges ++ unresolved_blocks true g)
+        (both (map (link_block layout) g.edges) (unresolved_blocks true g) (All-map (IsKept kept) (link_block layout) g.edges held.edges) (unresolved_kept true))
 
     ---- cut
 
@@ -133,15 +158,16 @@ module _ (kept : Kept) where
     chains_kept number total (c ∷ cs) =
         both (chain_blocks g number total c) (chains_from g (number + 1) total cs) (words_first _ (edge_places g c.chain) (edges_kept c.chain)) (chains_kept (number + 1) total cs)
 
-    shown_kept : (all : Bool) (cs : List Counted) → AreKept kept (shown_chains all g cs)
-    shown_kept true cs = chains_kept 1 (length cs) cs
-    shown_kept false cs = nothing
+    shown_kept : (all : Bool) (most : Option ℕ) (cs : List Counted) → AreKept kept (shown_chains all most g cs)
+    shown_kept true most cs =
+        both (chains_from g 1 (length cs) (first_of most cs)) (more_blocks (left_out most (length cs))) (chains_kept 1 (length cs) (first_of most cs)) (more_kept _)
+    shown_kept false most cs = nothing
 
-    pub cut_kept : (all costed : Bool) (layout : Layout) (set : List ℕ) (cs : List Counted) → AreKept kept (cut_document all costed layout g set cs)
-    cut_kept all costed layout [] cs = words_first _ [] nothing
-    cut_kept all costed layout (i ∷ is) cs =
-        words_first _ (edge_places g (i ∷ is) ++ proof_blocks all costed g cs)
-        (both (edge_places g (i ∷ is)) (proof_blocks all costed g cs) (edges_kept (i ∷ is)) (words_first _ (shown_chains all g cs) (shown_kept all cs)))
+    pub cut_kept : (all costed : Bool) (most : Option ℕ) (layout : Layout) (set : List ℕ) (cs : List Counted) → AreKept kept (cut_document all costed most layout g set cs)
+    cut_kept all costed most layout [] cs = words_first _ [] nothing
+    cut_kept all costed most layout (i ∷ is) cs =
+        words_first _ (edge_places g (i ∷ is) ++ proof_blocks all costed most g cs)
+        (both (edge_places g (i ∷ is)) (proof_blocks all costed most g cs) (edges_kept (i ∷ is)) (words_first _ (shown_chains all most g cs) (shown_kept all most cs)))
 
     pub fixed_kept : (layout : Layout) (chain : List ℕ) → AreKept kept (fixed_document layout g chain)
     fixed_kept layout [] = words_first _ [] nothing

@@ -44,3 +44,7 @@ pub mod JsonExamples
 pub mod JsonSteps
 pub mod JsonKept
 pub mod JsonNames
+pub mod DotLemmas
+pub mod FlagLemmas
+pub mod BoundLemmas
+pub mod LinkBlocks

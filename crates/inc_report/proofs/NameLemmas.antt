@@ -26,7 +26,7 @@ last_at : (fs : List ℕ) (f d : ℕ) → get_or (fs ++ f ∷ []) (length fs) d 
 last_at [] f d = refl
 last_at (g ∷ gs) f d = last_at gs f d
 
-flag_more : (fs : List ℕ) (f : ℕ) (flags : List Bool) → f < length flags → AreFlags fs flags → AreFlags (fs ++ f ∷ []) (set flags f true)
+pub flag_more : (fs : List ℕ) (f : ℕ) (flags : List Bool) → f < length flags → AreFlags fs flags → AreFlags (fs ++ f ∷ []) (set flags f true)
 flag_more fs f flags within are =
     let low : length fs < length (fs ++ f ∷ []) = omega (arith, length-append fs (f ∷ [])) in
     let more = flags_more (fs ++ f ∷ []) (length fs) f flags low (sym (last_at fs f f)) within

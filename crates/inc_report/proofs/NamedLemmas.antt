@@ -34,13 +34,13 @@ use Rattle.inc_report.specs.Questions.{Answer, IsAnswerBy}
 use Rattle.inc_report.specs.Refusals.{Blocked, Refusal, refusal, refusal_for}
 use Rattle.inc_report.specs.Terms.{Question, Limits, named_directives, setting_in}
 use Rattle.inc_report.specs.Told as report
-use Rattle.inc_report.specs.Told.{Chains, FixedChain, IsAnswerOf, Removed, Sources, end_kind, notes_of}
+use Rattle.inc_report.specs.Told.{Chains, Edges, FixedChain, IsAnswerOf, Removed, Sources, end_kind, notes_of}
 use Rattle.inc_report.specs.Views.{seen_refusal}
 use Rattle.inc_report.specs.declared.kept_sources.KeptSources.{KeptSources}
 use Rattle.inc_report.specs.declared.named.Asked.{Asked}
 use Rattle.inc_report.specs.declared.named.Asked.TheVariants as ask
 use Rattle.inc_report.specs.declared.named.Format.{Format}
-use Rattle.inc_report.specs.declared.named.Format.TheVariants.{Gcc, Json}
+use Rattle.inc_report.specs.declared.named.Format.TheVariants.{Gcc, Json, Dot}
 use Rattle.inc_report.specs.declared.named.NamedForm.{NamedForm}
 use Rattle.inc_report.specs.declared.outcome.End.{End}
 use Rattle.inc_report.specs.declared.outcome.EndKind.{EndKind}
@@ -51,8 +51,8 @@ use Rattle.inc_report.specs.declared.subjects.Subject.{Subject}
 use Rattle.inc_report.proofs.BlankLemmas.{all_kept}
 use Rattle.inc_report.proofs.CutLemmas.{unhindered}
 use Rattle.inc_report.proofs.HeadlineLemmas.{IsTold, told_of, stated_yes, stated_no, unhindered_all, unhindered_told, ends_apart, answered_negative}
-use Rattle.inc_report.proofs.JsonKept.{AreSame, cut_same, fixed_same, items_same, who_same, why_same}
-use Rattle.inc_report.proofs.KeptDirectives.{cut_kept, fixed_kept, who_kept, why_kept}
+use Rattle.inc_report.proofs.JsonKept.{AreSame, cut_same, fixed_same, graph_same, items_same, who_same, why_same}
+use Rattle.inc_report.proofs.KeptDirectives.{cut_kept, fixed_kept, links_kept, who_kept, why_kept}
 use Rattle.inc_report.proofs.KeptLemmas.{fits_given, fits_unread, holds_inner, kept_given}
 use Rattle.inc_report.proofs.KeptOut.{answered_cut_keeps_headers_out, of_names_once}
 use Rattle.inc_report.proofs.QuestionLemmas.{answer_all}
@@ -102,39 +102,46 @@ module _ (language : Language) (kept : Kept) (layout : Layout) (listing : Listin
         ap (λ (items : List (List ℕ)). refusal_object command (Blocked layout g.blockers) items)
         (items_same layout g (kept_kind language kept) (kind_of language listing) g.blockers all_same.blockers)
 
-    document_kept : (all costed : Bool) (answer : report.Answer) → AreKept kept (answer_document all costed layout g answer)
-    document_kept all costed (Chains shortest chains) = why_kept kept g held all layout shortest chains
-    document_kept all costed (Sources reaching chains) = who_kept kept g held all layout reaching chains
-    document_kept all costed (Removed set chains) = cut_kept kept g held all costed layout set chains
-    document_kept all costed (FixedChain chain) = fixed_kept kept g held layout chain
+    document_kept : (all costed : Bool) (most : Option ℕ) (answer : report.Answer) → AreKept kept (answer_document all costed most layout g answer)
+    document_kept all costed most (Chains shortest chains) = why_kept kept g held all most layout shortest chains
+    document_kept all costed most (Sources reaching chains) = who_kept kept g held all most layout reaching chains
+    document_kept all costed most Edges = links_kept kept g held layout
+    document_kept all costed most (Removed set chains) = cut_kept kept g held all costed most layout set chains
+    document_kept all costed most (FixedChain chain) = fixed_kept kept g held layout chain
 
     object_same : (all : Bool) (answer : report.Answer) → answer_json all (kept_about language kept layout g) answer ≡ answer_json all (about language listing layout g) answer
     object_same all (Chains shortest chains) = why_same layout g (kept_kind language kept) (kind_of language listing) all_same shortest chains
     object_same all (Sources reaching chains) = who_same layout g (kept_kind language kept) (kind_of language listing) all_same all reaching chains
+    object_same all Edges = graph_same layout g (kept_kind language kept) (kind_of language listing) all_same
     object_same all (Removed set chains) = cut_same layout g (kept_kind language kept) (kind_of language listing) all_same set chains
     object_same all (FixedChain chain) = fixed_same layout g (kept_kind language kept) (kind_of language listing) all_same chain
 
-    answer_same : (form : NamedForm) (costed : Bool) (answer : report.Answer) → answer_text form costed (kept_about language kept layout g) answer ≡ answer_text form costed (about language listing layout g) answer
-    answer_same form costed answer = by form.format
+    answer_same : (form : NamedForm) (costed : Bool) (amounts : List ℕ) (answer : report.Answer)
+        → answer_text form costed amounts (kept_about language kept layout g) answer ≡ answer_text form costed amounts (about language listing layout g) answer
+    answer_same form costed amounts answer = by form.format
       where
-        by : (f : Format) → answer_text (record form { format = f }) costed (kept_about language kept layout g) answer ≡ answer_text (record form { format = f }) costed (about language listing layout g) answer
-        by Gcc = text_same (answer_document form.all costed layout g answer) (document_kept form.all costed answer)
+        by : (f : Format)
+            → answer_text (record form { format = f }) costed amounts (kept_about language kept layout g) answer ≡ answer_text (record form { format = f }) costed amounts (about language listing layout g) answer
+        by Gcc = text_same (answer_document form.all costed form.most layout g answer) (document_kept form.all costed form.most answer)
         by Json = object_same form.all answer
+        by Dot = refl
 
     -- what is printed by what is kept is printed of the listing
     pub report_same : (asked : Asked) (form : NamedForm) (costed : Bool) (amounts : List ℕ) (p : Printed) → IsReport asked form costed (kept_about language kept layout g) amounts p
         → IsReportOf asked form costed language listing layout g amounts p
     report_same asked form costed amounts p r =
-        (r.0, r.1, r.2 ∙ ap (λ (text : List ℕ). printed_as text (end_of (notes_of layout g r.0) (end_kind r.0))) (answer_same form costed r.0))
+        (r.0, r.1, r.2 ∙ ap (λ (text : List ℕ). printed_as text (end_of (notes_of layout g r.0) (end_kind r.0))) (answer_same form costed amounts r.0))
 
 ---- formats
 
-gcc_format : (form : NamedForm) (kind : DirectiveId → LineKind) (p : Printed) → form.format ≡ Gcc → IsInFormat form kind p p
-gcc_format form kind p is = by form.format is
+-- what is no object is as text
+pub text_format : (form : NamedForm) (kind : DirectiveId → LineKind) (p : Printed) → form.format ≢ Json → IsInFormat form kind p p
+text_format form kind p other = by form.format other
   where
-    by : (f : Format) → f ≡ Gcc → IsInFormat (record form { format = f }) kind p p
-    by Gcc same = refl
-    by Json same = cc
+    by : (f : Format) → f ≢ Json → IsInFormat (record form { format = f }) kind p p
+    by Gcc other = refl
+    by Json other = absurd (other refl)
+    by Dot other = refl
 
 pub json_format : (form : NamedForm) (kind : DirectiveId → LineKind) (plain p : Printed) → form.format ≡ Json → IsObject form.asked kind plain p → IsInFormat form kind plain p
 json_format form kind plain p is object = by form.format is
@@ -142,6 +149,7 @@ json_format form kind plain p is object = by form.format is
     by : (f : Format) → f ≡ Json → IsInFormat (record form { format = f }) kind plain p
     by Gcc same = cc
     by Json same = object
+    by Dot same = cc
 
 -- an answer stays
 answer_format : (form : NamedForm) (kind : DirectiveId → LineKind) (p : Printed) → p.end.kind ≢ Refused → IsInFormat form kind p p
@@ -150,6 +158,7 @@ answer_format form kind p stated = by form.format
     by : (f : Format) → IsInFormat (record form { format = f }) kind p p
     by Gcc = refl
     by Json = inr (stated, refl)
+    by Dot = refl
 
 -- what is no refusal is what would be printed as text
 plain_format : (form : NamedForm) (kind : DirectiveId → LineKind) (plain p : Printed) → p.end.kind ≢ Refused → IsInFormat form kind plain p → p ≡ plain
@@ -158,6 +167,7 @@ plain_format form kind plain p stated is = by form.format is
     by : (f : Format) → IsInFormat (record form { format = f }) kind plain p → p ≡ plain
     by Gcc same = same
     by Json object = elim object [ inl r ↦ absurd (stated (ap (λ (q : Printed). q.end.kind) r.3)) | inr same ↦ same.1 ]
+    by Dot same = same
 
 -- the object of a refusal that names directives by marks
 pub object_of_marks : (command : List ℕ) (kind : DirectiveId → LineKind) (r : declared.Refusal) → refusal_object command (seen_refusal r) (mark_items (seen_refusal r)) ≡ refusal_json command kind (seen_refusal r)
@@ -186,6 +196,7 @@ module _ (form : NamedForm) (l : Limits) (s : Subject) (held : AreGraphKept s.gr
   stated : (answer : report.Answer) → p.end.kind ≡ end_kind answer → p.end.kind ≢ Refused
   stated (Chains shortest chains) is same = cc
   stated (Sources reaching chains) is same = cc
+  stated Edges is same = cc
   stated (Removed set chains) is same = cc
   stated (FixedChain chain) is same = cc
 
@@ -208,6 +219,9 @@ module _ (form : NamedForm) (l : Limits) (s : Subject) (held : AreGraphKept s.gr
   pub who_report : form.asked ≡ ask.Who → IsReport ask.Who form false (about_subject s) [] p → IsNamedKept form l s p
   who_report is r = kept_as ask.Who false [] is r (λ listing h. h)
 
+  pub graph_report : form.asked ≡ ask.Graph → IsReport ask.Graph form false (about_subject s) [] p → IsNamedKept form l s p
+  graph_report is r = kept_as ask.Graph false [] is r (λ listing h. h)
+
   pub cut_report : (costed : Bool) (amounts : List ℕ) → form.asked ≡ ask.Cut → costed ≡ has_costs l.costs → s.graph.now.blockers ≡ [] → marks_fault own s.graph.now l.fixed l.costs ≡ None
       → amounts ≡ amounts_by own s.graph.now l.kept l.fixed l.costs → IsReport ask.Cut form costed (about_subject s) amounts p → IsNamedKept form l s p
   cut_report costed amounts is same none named fixed r =
@@ -225,8 +239,8 @@ module _ (form : NamedForm) (l : Limits) (s : Subject) (held : AreGraphKept s.gr
       (unhindered_all own s.graph.now.blockers (marks_refusal own s.graph.now l.fixed l.costs) (λ r. ⊥)
       (IsReportOf ask.Cut form (has_costs l.costs) s.language listing own s.graph.now (amounts_by own s.graph.now l.kept l.fixed l.costs)) plain (λ none. absurd none) h)
 
-  pub hindered_text : form.asked ≡ ask.Cut → form.format ≡ Gcc → Hindered p → IsNamedKept form l s p
-  hindered_text is format h = (p, λ listing laid fits. (hindered_as listing p is h, gcc_format form (kind_of s.language listing) p format))
+  pub hindered_text : form.asked ≡ ask.Cut → form.format ≢ Json → Hindered p → IsNamedKept form l s p
+  hindered_text is format h = (p, λ listing laid fits. (hindered_as listing p is h, text_format form (kind_of s.language listing) p format))
 
   pub hindered_object : form.asked ≡ ask.Cut → form.format ≡ Json → IsHinderedKept l s p → IsNamedKept form l s p
   hindered_object is format h = (
@@ -369,7 +383,7 @@ module _ (form : NamedForm) (q : Question) (l : Limits) (p : Printed) (given : L
     amounts = amounts_by layout t.graph l.kept l.fixed l.costs
 
     abbrev IsPrinted : report.Answer → Type 0
-    IsPrinted answer = plain ≡ printed_answer as_cut (has_costs l.costs) (about q.language listing layout t.graph) answer
+    IsPrinted answer = plain ≡ printed_answer as_cut (has_costs l.costs) amounts (about q.language listing layout t.graph) answer
 
     keeps_out : (answer : report.Answer) → p.end.kind ≡ Answered → t.graph.blockers ≡ [] → IsAnswerOf ask.Cut t.graph amounts answer → IsPrinted answer
         → NamedKeepsHeadersOut as_cut q l listing p.text
@@ -385,12 +399,14 @@ module _ (form : NamedForm) (q : Question) (l : Limits) (p : Printed) (given : L
     keeps_out (FixedChain chain) end none fixed is = absurd (ends_apart p Answered Negative end (ap (λ (r : Printed). r.end.kind) (same ∙ is)) answered_negative)
     keeps_out (Chains shortest chains) end none never is = absurd never
     keeps_out (Sources reaching chains) end none never is = absurd never
+    keeps_out Edges end none never is = absurd never
 
     is_fixed : (answer : report.Answer) → p.end.kind ≡ Negative → IsAnswerOf ask.Cut t.graph amounts answer → IsPrinted answer → NamedIsFixed as_cut q l listing p.text
     is_fixed (FixedChain chain) end fixed is = record { of = graph_told t; chain = chain; is_fixed = fixed; printed = ap (λ (r : Printed). r.text) (same ∙ is) }
     is_fixed (Removed set chains) end cut is = absurd (ends_apart p Answered Negative (ap (λ (r : Printed). r.end.kind) (same ∙ is)) end answered_negative)
     is_fixed (Chains shortest chains) end never is = absurd never
     is_fixed (Sources reaching chains) end never is = absurd never
+    is_fixed Edges end never is = absurd never
 
   cut_headline : IsNamedBy as_cut q l p given listing → NamedCutHeadline as_cut q l p listing
   cut_headline is = record { cut = λ end. answered_of end; none = λ end. negative_of end }
@@ -422,4 +438,5 @@ named_headline form q l p given listing is = by form.asked is
     by : (a : Asked) → IsNamedBy (record form { asked = a }) q l p given listing → NamedHeadline (record form { asked = a }) q l p listing
     by ask.Why given' = tt
     by ask.Who given' = tt
+    by ask.Graph given' = tt
     by ask.Cut given' = cut_headline form q l p given listing given'

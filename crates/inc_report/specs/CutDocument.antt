@@ -1,10 +1,11 @@
 -- The document in which `cut` tells which directives to remove.
-use Rattle.std.specs.Prelude.{ℕ, ◌+◌, ◌==◌, Bool, true, false, List, [], ◌∷◌, ◌++◌, if◌then◌else◌, codes, decimal, length}
+use Rattle.std.specs.Prelude.{ℕ, ◌+◌, ◌==◌, Bool, true, false, List, [], ◌∷◌, ◌++◌, Option, if◌then◌else◌, codes, decimal, length}
 use Rattle.inc_lookup.specs.Projects.{Layout, path_at}
 use Rattle.inc_graph.specs.Cuts.{Counted}
 use Rattle.inc_graph.specs.IncludeGraph.{Graph}
 use Rattle.inc_graph.specs.Marks.{Cost}
-use Rattle.inc_report.specs.Documents.{Block, Words, counted, edge_places}
+use Rattle.inc_report.specs.Bounds.{first_of, left_out}
+use Rattle.inc_report.specs.Documents.{Block, Words, counted, edge_places, more_blocks}
 use Rattle.inc_report.specs.MissingNotes.{shown}
 use Rattle.inc_report.specs.WhyDocument.{headers_words, itself_words, none_of, unreached_words}
 
@@ -67,20 +68,21 @@ abbrev pub chains_from : Graph → (number total : ℕ) → List Counted → Lis
 chains_from g number total [] = []
 chains_from g number total (c ∷ cs) = chain_blocks g number total c ++ chains_from g (number + 1) total cs
 
-abbrev pub shown_chains : (all : Bool) → Graph → List Counted → List Block
-shown_chains true g chains = chains_from g 1 (length chains) chains
-shown_chains false g chains = []
+-- at most so many of them, if they are to be shown
+abbrev pub shown_chains : (all : Bool) → (most : Option ℕ) → Graph → List Counted → List Block
+shown_chains true most g chains = chains_from g 1 (length chains) (first_of most chains) ++ more_blocks (left_out most (length chains))
+shown_chains false most g chains = []
 
--- how many there are, and each if all is to be shown
-abbrev pub proof_blocks : (all costed : Bool) → Graph → List Counted → List Block
-proof_blocks all costed g chains = Words (proof_words all costed (length chains)) ∷ shown_chains all g chains
+-- how many there are, and these
+abbrev pub proof_blocks : (all costed : Bool) → (most : Option ℕ) → Graph → List Counted → List Block
+proof_blocks all costed most g chains = Words (proof_words all costed (length chains)) ∷ shown_chains all most g chains
 
 ---- the document
 
-abbrev pub cut_document : (all costed : Bool) → Layout → Graph → (set : List ℕ) → List Counted → List Block
-cut_document all costed layout g [] chains = Words (codes "nothing to remove: " ++ unreached_words layout g) ∷ []
-cut_document all costed layout g (i ∷ is) chains =
-    Words (removal_words layout g (length (i ∷ is))) ∷ edge_places g (i ∷ is) ++ proof_blocks all costed g chains
+abbrev pub cut_document : (all costed : Bool) → (most : Option ℕ) → Layout → Graph → (set : List ℕ) → List Counted → List Block
+cut_document all costed most layout g [] chains = Words (codes "nothing to remove: " ++ unreached_words layout g) ∷ []
+cut_document all costed most layout g (i ∷ is) chains =
+    Words (removal_words layout g (length (i ∷ is))) ∷ edge_places g (i ∷ is) ++ proof_blocks all costed most g chains
 
 -- of a chain of fixed edges
 abbrev pub fixed_document : Layout → Graph → List ℕ → List Block

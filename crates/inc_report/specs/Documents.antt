@@ -1,6 +1,6 @@
 -- Answers as documents: lines that say what is listed, and directives, each with its file and line in front, as compilers and grep print a
 -- place.
-use Rattle.std.specs.Prelude.{ℕ, ◌==◌, List, [], ◌∷◌, ◌++◌, if◌then◌else◌, codes, decimal, flat_map, length, map, is_some, IsTrue}
+use Rattle.std.specs.Prelude.{ℕ, ◌==◌, List, [], ◌∷◌, ◌++◌, Option, if◌then◌else◌, codes, decimal, flat_map, length, map, is_some, IsTrue}
 use Rattle.std.specs.List.{All}
 use Rattle.inc_lookup.specs.declared.projects.DirectiveId.{DirectiveId}
 use Rattle.inc_lookup.specs.Projects.{Layout, path_at}
@@ -9,6 +9,7 @@ use Rattle.inc_graph.specs.IncludeGraph.{Graph}
 use Rattle.inc_graph.specs.MissingLists.{Missing}
 use Rattle.inc_graph.specs.declared.graphs.Blocker.{Blocker}
 use Rattle.inc_check.specs.Texts.{line_text}
+use Rattle.inc_report.specs.Bounds.{first_of, left_out, more_words}
 use Rattle.inc_report.specs.KeptFiles.{AreAllKept, Kept, kept_at}
 use Rattle.inc_report.specs.MissingNotes.{shown}
 use Rattle.inc_report.specs.declared.documents.Block as declared
@@ -52,10 +53,18 @@ edge_places g is = places (directives_of g is)
 abbrev pub counted : (n : ℕ) → (one many : List ℕ) → List ℕ
 counted n one many = decimal n ++ (if n == 1 then one else many)
 
--- how many directives there are, and each; nothing where there are none
-abbrev pub listed : (one many : List ℕ) → List DirectiveId → List Block
-listed one many [] = []
-listed one many (d ∷ ds) = Words (counted (length (d ∷ ds)) one many) ∷ places (d ∷ ds)
+-- that so many more are not printed, where some are
+abbrev pub more_blocks : ℕ → List Block
+more_blocks n = if n == 0 then [] else Words (more_words n) ∷ []
+
+-- at most so many directives, and how many more there are
+abbrev pub first_places : (most : Option ℕ) → List DirectiveId → List Block
+first_places most ds = places (first_of most ds) ++ more_blocks (left_out most (length ds))
+
+-- how many directives there are, and at most so many of them; nothing where there are none
+abbrev pub listed : (most : Option ℕ) → (one many : List ℕ) → List DirectiveId → List Block
+listed most one many [] = []
+listed most one many (d ∷ ds) = Words (counted (length (d ∷ ds)) one many) ∷ first_places most (d ∷ ds)
 
 ---- what is kept of the files of directives
 

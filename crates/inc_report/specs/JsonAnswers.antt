@@ -1,4 +1,4 @@
--- The objects in which `why`, `who` and `cut` answer: one object on one line, with its keys in the order of their bytes.
+-- The objects in which `why`, `who`, `graph` and `cut` answer: one object on one line, with its keys in the order of their bytes.
 use Rattle.std.specs.Prelude.{ℕ, Bool, true, false, List, [], ◌∷◌, ◌++◌, Option, Some, None, codes, decimal, length, map, option_map, slice_get}
 use Rattle.std.specs.Option.{option_map_or}
 use Rattle.inc_text.specs.declared.languages.Language.{Language}
@@ -138,6 +138,16 @@ abbrev pub who_json : (all : Bool) → About → List Reaching → (chains : Lis
 who_json all a reaching chains =
     front_text (codes "who") a chains ++ from_text a ++ codes ",\"missing\":" ++ missing_text a ++ codes ",\"sources\":"
     ++ sources_text all a reaching ++ codes ",\"status\":0," ++ to_text a ++ codes "}\n"
+
+---- `graph`
+
+abbrev pub links_text : About → List Edge → List ℕ
+links_text a es = list_of (map (edge_text a) es)
+
+abbrev pub graph_json : About → List ℕ
+graph_json a =
+    codes "{\"blocked\":" ++ blocked_text a ++ codes ",\"command\":\"graph\",\"edges\":" ++ links_text a a.graph.edges ++ codes ",\"format\":1,"
+    ++ from_text a ++ codes ",\"missing\":" ++ missing_text a ++ codes ",\"status\":0}\n"
 
 ---- `cut`
 

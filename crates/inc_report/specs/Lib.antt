@@ -2,6 +2,7 @@ pub mod BlankHeadline
 pub mod BlankText
 pub mod BlankedCuts
 pub mod BlockedReasons
+pub mod Bounds
 pub mod ChangeForms
 pub mod ChangeSteps
 pub mod Changes
@@ -10,8 +11,10 @@ pub mod CutDocument
 pub mod CutText
 pub mod DirectiveNames
 pub mod Documents
+pub mod DotText
 pub mod FaultReasons
 pub mod Fitting
+pub mod GraphDocument
 pub mod GraphText
 pub mod Headline
 pub mod JsonAnswers
@@ -40,6 +43,7 @@ pub mod PpViews
 pub mod Printed
 pub mod Questions
 pub mod Refusals
+pub mod ScanForms
 pub mod ScanText
 pub mod Sending
 pub mod SourceEndings

@@ -1,5 +1,5 @@
 -- Printed lists of directives.
-use Rattle.std.specs.Prelude.{◌≡◌, ℕ, List, ◌++◌, Some, length, map, flat_map, slice_get, codes}
+use Rattle.std.specs.Prelude.{◌≡◌, ℕ, ◌==◌, List, [], ◌++◌, Option, Some, if◌then◌else◌, length, map, flat_map, slice_get, codes}
 use Rattle.inc_lookup.specs.Projects.{Layout, path_at}
 use Rattle.inc_graph.specs.declared.graphs.Blocker.{Blocker}
 use Rattle.inc_graph.specs.declared.graphs.BlockerKind.{BlockerKind}
@@ -9,7 +9,8 @@ use Rattle.inc_graph.specs.MissingLists.{Missing}
 use Rattle.inc_graph.specs.IncludeGraph.{Graph}
 use Rattle.inc_graph.specs.Marks.{Mark}
 use Rattle.inc_graph.specs.Views.{numbered}
-use Rattle.inc_check.specs.Texts.{marks_text}
+use Rattle.inc_check.specs.Texts.{line_text, marks_text}
+use Rattle.inc_report.specs.Bounds.{first_of, left_out, more_words}
 use Rattle.inc_report.specs.Numbers.{count_text, directive_text}
 
 abbrev pub mark_text : Mark → List ℕ
@@ -19,9 +20,14 @@ mark_text m = directive_text m.line m.path
 abbrev pub list_text : List ℕ → List Mark → List ℕ
 list_text word ms = count_text word (length ms) ++ marks_text ms
 
--- how many chains there are, and each
-abbrev pub chains_text : List (List Mark) → List ℕ
-chains_text chains = count_text (codes "chains") (length chains) ++ flat_map (list_text (codes "chain")) chains
+-- that so many more are not printed, where some are
+abbrev pub more_text : ℕ → List ℕ
+more_text n = if n == 0 then [] else line_text (more_words n)
+
+-- how many chains there are, and at most so many of them
+abbrev pub chains_text : (most : Option ℕ) → List (List Mark) → List ℕ
+chains_text most chains =
+    count_text (codes "chains") (length chains) ++ flat_map (list_text (codes "chain")) (first_of most chains) ++ more_text (left_out most (length chains))
 
 -- the directive at a line of a file
 abbrev pub mark_at : Layout → (file line : ℕ) → Mark

@@ -29,7 +29,7 @@ pub record HasGraph (q : Question) (listing : Listing) : Type 0 where
 -- the text is that of an answer
 abbrev pub IsTextOf : NamedForm → Question → Limits → Listing → Graph → Answer → (text : List ℕ) → Type 0
 IsTextOf form q l listing g answer text =
-    text ≡ answer_text form (has_costs l.costs) (about q.language listing (layout_of listing) g) answer
+    text ≡ answer_text form (has_costs l.costs) (amounts_by (layout_of listing) g l.kept l.fixed l.costs) (about q.language listing (layout_of listing) g) answer
 
 -- the directives that are printed keep the headers out of every preprocessing once they are removed, and no cheaper set of editable
 -- directives separates the sources from the headers in their graph

@@ -1,16 +1,21 @@
--- The answers in which directives stand as they are written, and how these are written: as lines, or as an object of JSON.
-use Rattle.std.specs.Prelude.{◌≡◌, ◌≢◌, ◌⊎◌, ℕ, Bool, false, List, [], codes}
+-- The answers in which directives stand as they are written, and how these are written: as lines, as an object of JSON, or as
+-- a graph to draw.
+use Rattle.std.specs.Prelude.{◌≡◌, ◌≢◌, ◌⊎◌, ℕ, Bool, true, false, List, [], ◌++◌, Option, Some, None, codes, flat_map}
+use Rattle.std.specs.List.{concat}
 use Rattle.inc_text.specs.declared.languages.Language.{Language}
 use Rattle.inc_lookup.specs.declared.projects.DirectiveId.{DirectiveId}
 use Rattle.inc_lookup.specs.Given.{Given}
 use Rattle.inc_lookup.specs.Projects.{Layout, Listing}
 use Rattle.inc_directive.specs.LineKinds.{LineKind}
+use Rattle.inc_graph.specs.Cuts.{Counted}
 use Rattle.inc_graph.specs.IncludeGraph.{Graph}
 use Rattle.inc_report.specs.CutDocument.{cut_document, fixed_document, has_costs}
 use Rattle.inc_report.specs.CutText.{Unhindered, WithAmounts, marks_refusal}
 use Rattle.inc_report.specs.DirectiveNames.{kind_of, written}
 use Rattle.inc_report.specs.Documents.{Block, document_text}
-use Rattle.inc_report.specs.JsonAnswers.{About, cut_json, fixed_json, who_json, why_json}
+use Rattle.inc_report.specs.DotText.{Drawn, all_drawn, dot_text, drawn}
+use Rattle.inc_report.specs.GraphDocument.{graph_document}
+use Rattle.inc_report.specs.JsonAnswers.{About, cut_json, fixed_json, graph_json, who_json, why_json}
 use Rattle.inc_report.specs.JsonRefusals.{refusal_json}
 use Rattle.inc_report.specs.KeptFiles.{OfKept}
 use Rattle.inc_report.specs.Printed.{Printed, end_of, refused_for}
@@ -18,13 +23,14 @@ use Rattle.inc_report.specs.Questions as questions
 use Rattle.inc_report.specs.Questions.{IsAnswerBy}
 use Rattle.inc_report.specs.Refusals.{Refusal, refusal_for}
 use Rattle.inc_report.specs.Terms.{Question, Limits}
-use Rattle.inc_report.specs.Told.{Answer, Chains, Sources, Removed, FixedChain, IsAnswerOf, end_kind, notes_of}
+use Rattle.inc_report.specs.Told.{Answer, Chains, Sources, Edges, Removed, FixedChain, IsAnswerOf, end_kind, notes_of}
 use Rattle.inc_report.specs.WhoDocument.{who_document}
 use Rattle.inc_report.specs.WhyDocument.{why_document}
 use Rattle.inc_report.specs.declared.named.Asked.{Asked}
+use Rattle.inc_report.specs.declared.named.Asked.TheVariants as ask
 use Rattle.inc_report.specs.declared.named.Asked.TheVariants.{Why, Who, Cut}
 use Rattle.inc_report.specs.declared.named.Format.{Format}
-use Rattle.inc_report.specs.declared.named.Format.TheVariants.{Gcc, Json}
+use Rattle.inc_report.specs.declared.named.Format.TheVariants.{Gcc, Json, Dot}
 use Rattle.inc_report.specs.declared.named.NamedForm.{NamedForm}
 use Rattle.inc_report.specs.declared.outcome.EndKind.TheVariants.{Refused}
 use Rattle.inc_report.specs.declared.subjects.Subject.{Subject}
@@ -32,40 +38,62 @@ use Rattle.inc_report.specs.declared.subjects.Subject.{Subject}
 ---- an answer in each format
 
 -- as lines and directives
-abbrev pub answer_document : (all costed : Bool) → Layout → Graph → Answer → List Block
-answer_document all costed layout g (Chains shortest chains) = why_document all layout g shortest chains
-answer_document all costed layout g (Sources reaching chains) = who_document all layout g reaching chains
-answer_document all costed layout g (Removed set chains) = cut_document all costed layout g set chains
-answer_document all costed layout g (FixedChain chain) = fixed_document layout g chain
+abbrev pub answer_document : (all costed : Bool) → (most : Option ℕ) → Layout → Graph → Answer → List Block
+answer_document all costed most layout g (Chains shortest chains) = why_document all most layout g shortest chains
+answer_document all costed most layout g (Sources reaching chains) = who_document all most layout g reaching chains
+answer_document all costed most layout g Edges = graph_document layout g
+answer_document all costed most layout g (Removed set chains) = cut_document all costed most layout g set chains
+answer_document all costed most layout g (FixedChain chain) = fixed_document layout g chain
 
 -- as an object
 abbrev pub answer_json : (all : Bool) → About → Answer → List ℕ
 answer_json all a (Chains shortest chains) = why_json a shortest chains
 answer_json all a (Sources reaching chains) = who_json all a reaching chains
+answer_json all a Edges = graph_json a
 answer_json all a (Removed set chains) = cut_json a set chains
 answer_json all a (FixedChain chain) = fixed_json a chain
 
-abbrev pub answer_lines : (all costed : Bool) → About → Answer → List ℕ
-answer_lines all costed a answer = document_text (λ d. written (a.kind d)) a.layout (answer_document all costed a.layout a.graph answer)
+abbrev pub answer_lines : (all costed : Bool) → (most : Option ℕ) → About → Answer → List ℕ
+answer_lines all costed most a answer =
+    document_text (λ d. written (a.kind d)) a.layout (answer_document all costed most a.layout a.graph answer)
 
-abbrev pub answer_text : NamedForm → (costed : Bool) → About → Answer → List ℕ
-answer_text form costed a answer = elim form.format [ Gcc ↦ answer_lines form.all costed a answer | Json ↦ answer_json form.all a answer ]
+-- which edges are drawn of it, where the edges of a cut have these amounts
+abbrev pub answer_drawn : (amounts : List ℕ) → Answer → Drawn
+answer_drawn amounts (Chains shortest chains) = drawn (concat chains) [] None
+answer_drawn amounts (Sources reaching chains) = drawn (concat chains) [] None
+answer_drawn amounts Edges = all_drawn
+answer_drawn amounts (Removed set chains) = drawn (set ++ flat_map (λ (c : Counted). c.chain) chains) set (Some amounts)
+answer_drawn amounts (FixedChain chain) = drawn chain [] (Some amounts)
+
+-- as a graph
+abbrev pub answer_dot : (amounts : List ℕ) → About → Answer → List ℕ
+answer_dot amounts a answer = dot_text a.layout a.graph (answer_drawn amounts answer)
+
+abbrev pub answer_text : NamedForm → (costed : Bool) → (amounts : List ℕ) → About → Answer → List ℕ
+answer_text form costed amounts a answer =
+    elim form.format [ Gcc ↦ answer_lines form.all costed form.most a answer | Json ↦ answer_json form.all a answer | Dot ↦ answer_dot amounts a answer ]
 
 -- a graph whose directives are those of a listing
 abbrev pub about : Language → Listing → Layout → Graph → About
 about language listing layout g = record { layout = layout; graph = g; kind = kind_of language listing }
 
 -- it is printed so, and the call ends so
-abbrev pub printed_answer : NamedForm → (costed : Bool) → About → Answer → Printed
-printed_answer form costed a answer =
-    record { text = answer_text form costed a answer; end = end_of (notes_of a.layout a.graph answer) (end_kind answer) }
+abbrev pub printed_answer : NamedForm → (costed : Bool) → (amounts : List ℕ) → About → Answer → Printed
+printed_answer form costed amounts a answer =
+    record { text = answer_text form costed amounts a answer; end = end_of (notes_of a.layout a.graph answer) (end_kind answer) }
 
 ---- a refusal in each format
 
 abbrev pub command_name : Asked → List ℕ
 command_name Why = codes "why"
 command_name Who = codes "who"
+command_name ask.Graph = codes "graph"
 command_name Cut = codes "cut"
+
+-- whether it is about headers, too
+abbrev pub asks_headers : Asked → Bool
+asks_headers ask.Graph = false
+asks_headers _ = true
 
 -- a refusal is an object, and an answer stays
 abbrev pub IsObject : Asked → (kind : DirectiveId → LineKind) → (plain : Printed) → Printed → Type 0
@@ -75,13 +103,13 @@ IsObject asked kind plain p =
 
 -- what is printed in a format where this would be printed as text, or is an answer that is
 abbrev pub IsInFormat : NamedForm → (kind : DirectiveId → LineKind) → (plain : Printed) → Printed → Type 0
-IsInFormat form kind plain p = elim form.format [ Gcc ↦ p ≡ plain | Json ↦ IsObject form.asked kind plain p ]
+IsInFormat form kind plain p = elim form.format [ Gcc ↦ p ≡ plain | Json ↦ IsObject form.asked kind plain p | Dot ↦ p ≡ plain ]
 
 ---- what is printed
 
 -- of a graph whose edges have these amounts
 abbrev pub IsReport : Asked → NamedForm → (costed : Bool) → About → (amounts : List ℕ) → Printed → Type 0
-IsReport asked form costed a amounts p = (answer : Answer) × IsAnswerOf asked a.graph amounts answer × (p ≡ printed_answer form costed a answer)
+IsReport asked form costed a amounts p = (answer : Answer) × IsAnswerOf asked a.graph amounts answer × (p ≡ printed_answer form costed amounts a answer)
 
 -- the same of a graph whose directives are those of a listing
 abbrev pub IsReportOf : Asked → NamedForm → (costed : Bool) → Language → Listing → Layout → Graph → (amounts : List ℕ) → Printed → Type 0

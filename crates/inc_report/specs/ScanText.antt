@@ -1,17 +1,11 @@
 -- The text that `scan` prints: the include directives and the foreign ones of one file, in whatever group they are.
-use Rattle.std.specs.Prelude.{ℕ, List, ◌++◌, Option, Some, None, Result, Ok, Err, if◌then◌else◌, length, filter_map, decimal, codes}
+use Rattle.std.specs.Prelude.{ℕ, List, ◌++◌, Option, Some, None, length, filter_map, decimal, codes}
 use Rattle.std.specs.List.{concat}
-use Rattle.inc_text.specs.PhaseText.{phase_text, is_too_long}
-use Rattle.inc_text.specs.declared.languages.Language.{Language}
-use Rattle.inc_directive.specs.FileDirectives.{Directive, file_directives}
+use Rattle.inc_directive.specs.FileDirectives.{Directive}
 use Rattle.inc_directive.specs.LineKinds.{Target, Quoted, Angled, ByName, Computed, Nothing, LineKind, Include, Other}
 use Rattle.inc_directive.specs.declared.kinds.DirectiveKind.TheVariants.{Foreign}
-use Rattle.inc_directive.specs.declared.files.FileFault.{FileFault}
 use Rattle.inc_check.specs.Texts.{line_text}
 use Rattle.inc_report.specs.Numbers.{count_text}
-use Rattle.inc_report.specs.Printed.{Printed, answered}
-use Rattle.inc_report.specs.FaultReasons.{bad_file}
-use Rattle.inc_report.specs.Refusals.{TooLong, refusal}
 
 abbrev pub target_text : Target → List ℕ
 target_text (Quoted name) = codes "quoted " ++ name
@@ -41,13 +35,3 @@ entries directives = filter_map entry_of directives
 -- how many there are, and each
 abbrev pub scan_text : List Directive → List ℕ
 scan_text directives = count_text (codes "directives") (length (entries directives)) ++ concat (entries directives)
-
--- a file is refused where it has a fault: an unterminated comment, or conditionals that are not balanced
-abbrev pub scan_result : (path title : List ℕ) → Result (List Directive) FileFault → Printed
-scan_result path title (Ok directives) = answered (scan_text directives)
-scan_result path title (Err fault) = bad_file path title fault
-
--- what `scan` prints for a source, under a path that is only printed, and under what it is called beside it
-abbrev pub scan : Language → (path title source : List ℕ) → Printed
-scan language path title source =
-    if is_too_long source then refusal TooLong else scan_result path title (file_directives language (phase_text language source))

@@ -1,5 +1,5 @@
 -- What is answered about a graph: which edges, chains and sources. How that is written is another matter.
-use Rattle.std.specs.Prelude.{ℕ, Bool, List, Option, Some, None, if◌then◌else◌}
+use Rattle.std.specs.Prelude.{ℕ, Bool, List, [], Option, Some, None, if◌then◌else◌}
 use Rattle.inc_lookup.specs.Projects.{Layout}
 use Rattle.inc_graph.specs.Chains.{IsShortestOrNone, AreChainsByLast}
 use Rattle.inc_graph.specs.Cuts.{Counted, fixed_by, costs_by, IsCut, IsFixedChain}
@@ -10,7 +10,7 @@ use Rattle.inc_report.specs.Printed.{Printed, end_of}
 use Rattle.inc_report.specs.WhoText.{who_notes}
 use Rattle.inc_report.specs.WhyText.{why_notes}
 use Rattle.inc_report.specs.declared.named.Asked.{Asked}
-use Rattle.inc_report.specs.declared.named.Asked.TheVariants.{Why, Who, Cut}
+use Rattle.inc_report.specs.declared.named.Asked.TheVariants as asked
 use Rattle.inc_report.specs.declared.subjects.Told as declared
 use Rattle.inc_report.specs.declared.outcome.EndKind.{EndKind}
 use Rattle.inc_report.specs.declared.outcome.EndKind.TheVariants.{Answered, Negative}
@@ -20,6 +20,8 @@ pub data Answer : Type 0 where
   Chains : (shortest : Option (List ℕ)) → (chains : List (List ℕ)) → Answer
   -- the sources that reach a header, and the same chains
   Sources : List Reaching → (chains : List (List ℕ)) → Answer
+  -- all edges of the graph
+  Edges : Answer
   -- the edges to remove, and chains that show that no set is cheaper
   Removed : (set : List ℕ) → List Counted → Answer
   -- a chain of which no edge may be removed
@@ -27,10 +29,11 @@ pub data Answer : Type 0 where
 
 -- the answer of a graph to what is asked, whose edges have these amounts
 abbrev pub IsAnswerOf : Asked → Graph → (amounts : List ℕ) → Answer → Type 0
-IsAnswerOf Why g amounts (Chains shortest chains) = IsShortestOrNone g shortest × AreChainsByLast g 0 chains
-IsAnswerOf Who g amounts (Sources reaching chains) = AreReaching g g.sources reaching × AreChainsByLast g 0 chains
-IsAnswerOf Cut g amounts (Removed set chains) = IsCut g (fixed_by amounts) (costs_by amounts) set chains
-IsAnswerOf Cut g amounts (FixedChain chain) = IsFixedChain g (fixed_by amounts) chain
+IsAnswerOf asked.Why g amounts (Chains shortest chains) = IsShortestOrNone g shortest × AreChainsByLast g 0 chains
+IsAnswerOf asked.Who g amounts (Sources reaching chains) = AreReaching g g.sources reaching × AreChainsByLast g 0 chains
+IsAnswerOf asked.Graph g amounts Edges = Unit {0}
+IsAnswerOf asked.Cut g amounts (Removed set chains) = IsCut g (fixed_by amounts) (costs_by amounts) set chains
+IsAnswerOf asked.Cut g amounts (FixedChain chain) = IsFixedChain g (fixed_by amounts) chain
 IsAnswerOf _ g amounts _ = ⊥
 
 -- the call ends so
@@ -42,6 +45,7 @@ end_kind _ = Answered
 abbrev pub notes_of : Layout → Graph → Answer → List ℕ
 notes_of layout g (Chains shortest chains) = why_notes layout g shortest
 notes_of layout g (Sources reaching chains) = who_notes layout g reaching
+notes_of layout g Edges = []
 notes_of layout g (Removed set chains) = empty_notes layout g.missing
 notes_of layout g (FixedChain chain) = empty_notes layout g.missing
 

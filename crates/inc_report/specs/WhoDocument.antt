@@ -5,7 +5,8 @@ use Rattle.inc_lookup.specs.Projects.{Layout, path_at}
 use Rattle.inc_graph.specs.Cuts.{directives_of}
 use Rattle.inc_graph.specs.IncludeGraph.{Graph}
 use Rattle.inc_graph.specs.Reaching.{Reaching}
-use Rattle.inc_report.specs.Documents.{Block, Led, Words, counted, listed}
+use Rattle.inc_report.specs.Bounds.{first_of, left_out}
+use Rattle.inc_report.specs.Documents.{Block, Led, Words, counted, listed, more_blocks}
 use Rattle.inc_report.specs.MissingNotes.{shown}
 use Rattle.inc_report.specs.WhyDocument.{headers_words, other_lasts, shortest_blocks, unreached_words, unresolved_blocks}
 
@@ -46,12 +47,16 @@ reaching_by true layout g s (Some first) chain = shortest_blocks layout g chain
 abbrev pub reaching_blocks : (all : Bool) → Layout → Graph → Reaching → List Block
 reaching_blocks all layout g r = reaching_by all layout g r.source (slice_get r.chain 0) r.chain
 
+-- at most so many of them
+abbrev pub source_blocks : (all : Bool) → (most : Option ℕ) → Layout → Graph → List Reaching → List Block
+source_blocks all most layout g reaching = flat_map (reaching_blocks all layout g) (first_of most reaching) ++ more_blocks (left_out most (length reaching))
+
 ---- the document
 
 -- the last directives of all chains
-abbrev pub in_blocks : Graph → (chains : List (List ℕ)) → List Block
-in_blocks g chains = listed (codes " way in, by its last directive:") (codes " ways in, by their last directive:") (directives_of g (other_lasts None chains))
+abbrev pub in_blocks : (most : Option ℕ) → Graph → (chains : List (List ℕ)) → List Block
+in_blocks most g chains = listed most (codes " way in, by its last directive:") (codes " ways in, by their last directive:") (directives_of g (other_lasts None chains))
 
-abbrev pub who_document : (all : Bool) → Layout → Graph → List Reaching → (chains : List (List ℕ)) → List Block
-who_document all layout g reaching chains =
-    Words (count_words layout g (length reaching)) ∷ flat_map (reaching_blocks all layout g) reaching ++ in_blocks g chains ++ unresolved_blocks all g
+abbrev pub who_document : (all : Bool) → (most : Option ℕ) → Layout → Graph → List Reaching → (chains : List (List ℕ)) → List Block
+who_document all most layout g reaching chains =
+    Words (count_words layout g (length reaching)) ∷ source_blocks all most layout g reaching ++ in_blocks most g chains ++ unresolved_blocks all g

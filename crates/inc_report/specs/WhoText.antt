@@ -1,5 +1,5 @@
 -- The text that `who` prints: which sources reach a header.
-use Rattle.std.specs.Prelude.{◌≡◌, ℕ, Bool, true, false, List, [], ◌∷◌, ◌++◌, length, flat_map, codes}
+use Rattle.std.specs.Prelude.{◌≡◌, ℕ, Bool, true, false, List, [], ◌∷◌, ◌++◌, Option, length, flat_map, codes}
 use Rattle.inc_report.specs.Terms.{Question}
 use Rattle.inc_lookup.specs.Given.{Given}
 use Rattle.inc_lookup.specs.Projects.{Layout, Listing, path_at}
@@ -7,7 +7,8 @@ use Rattle.inc_graph.specs.Chains.{AreChainsByLast}
 use Rattle.inc_graph.specs.IncludeGraph.{Graph}
 use Rattle.inc_graph.specs.Reaching.{Reaching, AreReaching}
 use Rattle.inc_check.specs.Certificates.{marks_of}
-use Rattle.inc_report.specs.MarkTexts.{list_text}
+use Rattle.inc_report.specs.Bounds.{first_of, left_out}
+use Rattle.inc_report.specs.MarkTexts.{list_text, more_text}
 use Rattle.inc_report.specs.Numbers.{count_text, directive_text}
 use Rattle.inc_report.specs.MissingNotes.{unreached_notes}
 use Rattle.inc_report.specs.Printed.{Printed, answered_of}
@@ -23,10 +24,14 @@ chain_if false layout g chain = []
 abbrev pub reaching_text : (with_chains : Bool) → Layout → Graph → Reaching → List ℕ
 reaching_text with_chains layout g r = directive_text (length r.chain) (path_at layout r.source) ++ chain_if with_chains layout g r.chain
 
--- how many sources reach a header, each of them, and what `why` prints after its shortest chain
-abbrev pub who_text : (with_chains : Bool) → Layout → Graph → List Reaching → List (List ℕ) → List ℕ
-who_text with_chains layout g reaching chains =
-    count_text (codes "who") (length reaching) ++ flat_map (reaching_text with_chains layout g) reaching ++ ways_text layout g chains
+-- how many sources reach a header, and at most so many of them
+abbrev pub sources_text : (with_chains : Bool) → (most : Option ℕ) → Layout → Graph → List Reaching → List ℕ
+sources_text with_chains most layout g reaching =
+    count_text (codes "who") (length reaching) ++ flat_map (reaching_text with_chains layout g) (first_of most reaching) ++ more_text (left_out most (length reaching))
+
+-- these, and what `why` prints after its shortest chain
+abbrev pub who_text : (with_chains : Bool) → (most : Option ℕ) → Layout → Graph → List Reaching → List (List ℕ) → List ℕ
+who_text with_chains most layout g reaching chains = sources_text with_chains most layout g reaching ++ ways_text most layout g chains
 
 -- what is noted beside it: of headers that are not found, where no source reaches a header
 abbrev pub who_notes : Layout → Graph → List Reaching → List ℕ
@@ -34,15 +39,15 @@ who_notes layout g [] = unreached_notes layout g.missing
 who_notes layout g (r ∷ rs) = []
 
 -- what `who` prints of a graph
-abbrev pub IsWhoOf : (with_chains : Bool) → Answer
-IsWhoOf with_chains layout g p =
+abbrev pub IsWhoOf : (with_chains : Bool) → (most : Option ℕ) → Answer
+IsWhoOf with_chains most layout g p =
     (reaching : List Reaching) × (chains : List (List ℕ)) × AreReaching g g.sources reaching × AreChainsByLast g 0 chains
-    × (p ≡ answered_of (who_notes layout g reaching) (who_text with_chains layout g reaching chains))
+    × (p ≡ answered_of (who_notes layout g reaching) (who_text with_chains most layout g reaching chains))
 
 -- what `who` prints
-abbrev pub IsWho : (with_chains : Bool) → Question → Listing → Printed → Type 0
-IsWho with_chains q listing p = IsAnswer (IsWhoOf with_chains) q listing p
+abbrev pub IsWho : (with_chains : Bool) → (most : Option ℕ) → Question → Listing → Printed → Type 0
+IsWho with_chains most q listing p = IsAnswer (IsWhoOf with_chains most) q listing p
 
 -- and which files are read for that
-abbrev pub IsWhoBy : (with_chains : Bool) → Question → Printed → List Given → Listing → Type 0
-IsWhoBy with_chains q p given listing = IsAnswerBy (IsWhoOf with_chains) q p given listing
+abbrev pub IsWhoBy : (with_chains : Bool) → (most : Option ℕ) → Question → Printed → List Given → Listing → Type 0
+IsWhoBy with_chains most q p given listing = IsAnswerBy (IsWhoOf with_chains most) q p given listing

@@ -10,7 +10,8 @@ use Rattle.inc_graph.specs.MissingLists.{Missing}
 use Rattle.inc_graph.specs.declared.graphs.Blocker.{Blocker}
 use Rattle.inc_graph.specs.declared.graphs.BlockerKind.{BlockerKind}
 use Rattle.inc_graph.specs.declared.graphs.BlockerKind.TheVariants.{Computed, Foreign, Several}
-use Rattle.inc_report.specs.Documents.{Block, Words, counted, edge_places, listed}
+use Rattle.inc_report.specs.Bounds.{first_of, left_out}
+use Rattle.inc_report.specs.Documents.{Block, Words, counted, edge_places, listed, more_blocks}
 use Rattle.inc_report.specs.MissingNotes.{shown}
 
 ---- sources and headers
@@ -100,11 +101,15 @@ whole_way g chain = Words (way_words (length chain)) ∷ edge_places g chain
 abbrev pub way_blocks : (last : Option ℕ) → Graph → List ℕ → List Block
 way_blocks last g chain = if is_same (last_of chain) last then [] else whole_way g chain
 
+-- of at most so many chains each of the others whole
+abbrev pub whole_ways : (most last : Option ℕ) → Graph → List (List ℕ) → List Block
+whole_ways most last g chains = flat_map (way_blocks last g) (first_of most chains) ++ more_blocks (left_out most (length chains))
+
 -- the last directives of the other chains, or each whole
-abbrev pub other_blocks : (all : Bool) → (last : Option ℕ) → Graph → List (List ℕ) → List Block
-other_blocks true last g chains = flat_map (way_blocks last g) chains
-other_blocks false last g chains =
-    listed (codes " other way in, by its last directive (--all shows the chain):") (codes " other ways in, by their last directive (--all shows each chain):")
+abbrev pub other_blocks : (all : Bool) → (most last : Option ℕ) → Graph → List (List ℕ) → List Block
+other_blocks true most last g chains = whole_ways most last g chains
+other_blocks false most last g chains =
+    listed most (codes " other way in, by its last directive (--all shows the chain):") (codes " other ways in, by their last directive (--all shows each chain):")
     (directives_of g (other_lasts last chains))
 
 ---- what is not found, and what nothing can be said of
@@ -114,7 +119,7 @@ missing_id m = record { file = m.file; line = m.line }
 
 abbrev pub missing_blocks : List Missing → List Block
 missing_blocks ms =
-    listed (codes " include names a header that was not found:") (codes " includes name headers that were not found:") (map missing_id ms)
+    listed None (codes " include names a header that was not found:") (codes " includes name headers that were not found:") (map missing_id ms)
 
 abbrev pub is_kind : BlockerKind → BlockerKind → Bool
 is_kind Computed Computed = true
@@ -130,9 +135,9 @@ blocker_ids kind bs = filter_map (blocker_if kind) bs
 
 abbrev pub blocker_blocks : List Blocker → List Block
 blocker_blocks bs =
-    listed (codes " include may name any header, since macros make its name:") (codes " includes may name any header, since macros make their names:") (blocker_ids Computed bs)
-    ++ listed (codes " directive may include any header, since it is none of the language:") (codes " directives may include any header, since they are none of the language:") (blocker_ids Foreign bs)
-    ++ listed (codes " include leads to several files, by how its own file is found:") (codes " includes lead to several files, by how their own files are found:") (blocker_ids Several bs)
+    listed None (codes " include may name any header, since macros make its name:") (codes " includes may name any header, since macros make their names:") (blocker_ids Computed bs)
+    ++ listed None (codes " directive may include any header, since it is none of the language:") (codes " directives may include any header, since they are none of the language:") (blocker_ids Foreign bs)
+    ++ listed None (codes " include leads to several files, by how its own file is found:") (codes " includes lead to several files, by how their own files are found:") (blocker_ids Several bs)
 
 abbrev pub unresolved_blocks : (all : Bool) → Graph → List Block
 unresolved_blocks true g = missing_blocks g.missing ++ blocker_blocks g.blockers
@@ -140,13 +145,13 @@ unresolved_blocks false g = blocker_blocks g.blockers
 
 ---- the document
 
-abbrev pub reached_document : (all : Bool) → Layout → Graph → (chain : List ℕ) → (chains : List (List ℕ)) → List Block
-reached_document all layout g chain chains =
-    shortest_blocks layout g chain ++ other_blocks all (last_of chain) g chains ++ unresolved_blocks all g
+abbrev pub reached_document : (all : Bool) → (most : Option ℕ) → Layout → Graph → (chain : List ℕ) → (chains : List (List ℕ)) → List Block
+reached_document all most layout g chain chains =
+    shortest_blocks layout g chain ++ other_blocks all most (last_of chain) g chains ++ unresolved_blocks all g
 
 abbrev pub unreached_document : (all : Bool) → Layout → Graph → List Block
 unreached_document all layout g = Words (unreached_words layout g) ∷ unresolved_blocks all g
 
-abbrev pub why_document : (all : Bool) → Layout → Graph → (shortest : Option (List ℕ)) → (chains : List (List ℕ)) → List Block
-why_document all layout g None chains = unreached_document all layout g
-why_document all layout g (Some chain) chains = reached_document all layout g chain chains
+abbrev pub why_document : (all : Bool) → (most : Option ℕ) → Layout → Graph → (shortest : Option (List ℕ)) → (chains : List (List ℕ)) → List Block
+why_document all most layout g None chains = unreached_document all layout g
+why_document all most layout g (Some chain) chains = reached_document all most layout g chain chains

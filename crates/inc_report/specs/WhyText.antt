@@ -24,13 +24,13 @@ unresolved_text layout g =
     list_text (codes "missing") (map (missing_mark layout) g.missing)
     ++ count_text (codes "blocked") (length g.blockers) ++ blockers_text layout g.blockers
 
--- for each edge into the header the shortest chain that it ends, and this
-abbrev pub ways_text : Layout → Graph → List (List ℕ) → List ℕ
-ways_text layout g chains = chains_text (map (marks_of layout g) chains) ++ unresolved_text layout g
+-- for each edge into the header the shortest chain that it ends, at most so many, and this
+abbrev pub ways_text : (most : Option ℕ) → Layout → Graph → List (List ℕ) → List ℕ
+ways_text most layout g chains = chains_text most (map (marks_of layout g) chains) ++ unresolved_text layout g
 
 -- a shortest chain, and these
-abbrev pub why_text : Layout → Graph → Option (List ℕ) → List (List ℕ) → List ℕ
-why_text layout g shortest chains = shortest_text (option_map (marks_of layout g) shortest) ++ ways_text layout g chains
+abbrev pub why_text : (most : Option ℕ) → Layout → Graph → Option (List ℕ) → List (List ℕ) → List ℕ
+why_text most layout g shortest chains = shortest_text (option_map (marks_of layout g) shortest) ++ ways_text most layout g chains
 
 -- what is noted beside it: of headers that are not found, where there is no chain
 abbrev pub why_notes : Layout → Graph → Option (List ℕ) → List ℕ
@@ -38,15 +38,15 @@ why_notes layout g None = unreached_notes layout g.missing
 why_notes layout g (Some chain) = []
 
 -- what `why` prints of a graph
-abbrev pub IsWhyOf : Answer
-IsWhyOf layout g p =
+abbrev pub IsWhyOf : (most : Option ℕ) → Answer
+IsWhyOf most layout g p =
     (shortest : Option (List ℕ)) × (chains : List (List ℕ)) × IsShortestOrNone g shortest × AreChainsByLast g 0 chains
-    × (p ≡ answered_of (why_notes layout g shortest) (why_text layout g shortest chains))
+    × (p ≡ answered_of (why_notes layout g shortest) (why_text most layout g shortest chains))
 
 -- what `why` prints
-abbrev pub IsWhy : Question → Listing → Printed → Type 0
-IsWhy q listing p = IsAnswer IsWhyOf q listing p
+abbrev pub IsWhy : (most : Option ℕ) → Question → Listing → Printed → Type 0
+IsWhy most q listing p = IsAnswer (IsWhyOf most) q listing p
 
 -- and which files are read for that
-abbrev pub IsWhyBy : Question → Printed → List Given → Listing → Type 0
-IsWhyBy q p given listing = IsAnswerBy IsWhyOf q p given listing
+abbrev pub IsWhyBy : (most : Option ℕ) → Question → Printed → List Given → Listing → Type 0
+IsWhyBy most q p given listing = IsAnswerBy (IsWhyOf most) q p given listing

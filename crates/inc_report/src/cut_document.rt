@@ -1,10 +1,11 @@
 //! The document in which `cut` tells which directives to remove.
-ghost use Rattle.std.specs.Prelude.{◌≡◌, ◌<◌, ◌+◌, ◌++◌, [], true, length, IfOk, OnOk};
+ghost use Rattle.std.specs.Prelude.{◌≡◌, ◌<◌, ◌≤◌, ◌+◌, ◌++◌, [], None, true, length, take, IfOk, OnOk};
 ghost use Rattle.std.specs.List.{All};
 ghost use Rattle.inc_graph.specs.Cuts as cuts;
-ghost use Rattle.inc_report.specs.CutDocument.{chain_blocks, chain_words, cut_document, fixed_document, least_words, many_chains, often_words, one_chain, parted_all, parted_from, parted_of, proof_blocks, proof_words, removal_words, shown_chains, where_words};
+ghost use Rattle.inc_report.specs.CutDocument.{chain_blocks, chain_words, chains_from, cut_document, fixed_document, least_words, many_chains, often_words, one_chain, parted_all, parted_from, parted_of, proof_blocks, proof_words, removal_words, shown_chains, where_words};
 ghost use Rattle.inc_report.specs.Fitting.{counted_as};
 
+use crate::bounds::shown_count;
 use crate::documents::{Document, put_counted, put_path};
 use crate::missing_notes::put_number;
 use crate::why_document::{put_headers, put_itself, put_none_of, put_unreached};
@@ -16,8 +17,10 @@ use std::alloc::{AllocError, Global};
 /// How the chains are printed that show that a cut is the cheapest.
 #[derive(Clone, Copy)]
 pub(crate) struct ChainForm {
-    /// Whether each is shown.
+    /// Whether they are shown.
     pub all: bool,
+    /// How many are shown at most; all where no number is given.
+    pub most: Option<usize>,
     /// Whether some directives have costs.
     pub costed: bool,
 }
@@ -34,7 +37,7 @@ pub(crate) fn cut_document(
     requires cut { All (λ i. i < length graph.now.edges) cut.now }
     requires chains { All (λ (c : cuts.Counted). All (λ i. i < length graph.now.edges) c.chain) chains.now }
     ensures { IfOk result (λ document. document
-        ≡ cut_document form.all form.costed project.now graph.now cut.now chains.now) }
+        ≡ cut_document form.all form.costed form.most project.now graph.now cut.now chains.now) }
 {
     if cut.is_empty() {
         return nothing_document(alloc, project, graph);
@@ -55,7 +58,7 @@ fn nothing_document(
     graph: &Graph,
 ) -> Result<Document, AllocError>
     ensures { IfOk result (λ document. document
-        ≡ cut_document true true project.now graph.now [] []) }
+        ≡ cut_document true true None project.now graph.now [] []) }
 {
     let mut document = Document::new(alloc);
     let mut text = Vec::new(alloc);
@@ -159,13 +162,13 @@ fn add_proof(
 ) -> Result<(), AllocError>
     requires { All (λ (c : cuts.Counted). All (λ i. i < length graph.now.edges) c.chain) chains.now }
     ensures { OnOk result (document.new ≡ document.old
-        ++ proof_blocks form.all form.costed graph.now chains.now) }
+        ++ proof_blocks form.all form.costed form.most graph.now chains.now) }
 {
     let mut text = Vec::new(alloc);
     put_proof(&mut text, chains.len(), form)?;
     document.add_words(text)?;
     if form.all {
-        return add_chains(document, alloc, graph, chains);
+        return add_chains(document, alloc, graph, chains, form.most);
     }
     Ok(())
 }
@@ -228,17 +231,37 @@ fn where_words(all: bool, count: usize) -> &'static [u8]
     b" (--all shows them)"
 }
 
-/// Adds each chain.
+/// Adds at most so many of the chains.
 fn add_chains(
     document: &mut Document,
     alloc: Global,
     graph: &Graph,
     chains: &CountedChains,
+    most: Option<usize>,
 ) -> Result<(), AllocError>
     requires { All (λ (c : cuts.Counted). All (λ i. i < length graph.now.edges) c.chain) chains.now }
-    ensures { OnOk result (document.new ≡ document.old ++ shown_chains true graph.now chains.now) }
+    ensures { OnOk result (document.new ≡ document.old ++ shown_chains true most graph.now chains.now) }
 {
-    for index in 0..chains.len() {
+    let total = chains.len();
+    let shown = shown_count(most, total);
+    add_first_chains(document, alloc, graph, chains, shown)?;
+    document.add_more(alloc, total - shown)
+}
+
+/// Adds so many of them.
+fn add_first_chains(
+    document: &mut Document,
+    alloc: Global,
+    graph: &Graph,
+    chains: &CountedChains,
+    shown: usize,
+) -> Result<(), AllocError>
+    requires chains { All (λ (c : cuts.Counted). All (λ i. i < length graph.now.edges) c.chain) chains.now }
+    requires shown { shown ≤ length chains.now }
+    ensures { OnOk result (document.new ≡ document.old
+        ++ chains_from graph.now 1 (length chains.now) (take shown chains.now)) }
+{
+    for index in 0..shown {
         add_chain(
             document,
             alloc,

@@ -234,7 +234,11 @@ impl<'k> NameTable<'k> {
 }
 
 /// Adds a directive of this kind as it is written, and as it is shown on a line.
-fn put_written(text: &mut Vec<u8>, alloc: Global, kind: LineKind<'_>) -> Result<(), AllocError>
+pub(crate) fn put_written(
+    text: &mut Vec<u8>,
+    alloc: Global,
+    kind: LineKind<'_>,
+) -> Result<(), AllocError>
     ensures { OnOk result (text.new.items ≡ text.old.items ++ shown (written (seen_kind kind.entry))) }
 {
     let mut name = Vec::new(alloc);

@@ -4,9 +4,10 @@ ghost use Rattle.std.specs.List.{All};
 ghost use Rattle.inc_lookup.specs.Projects.{path_at};
 ghost use Rattle.inc_report.specs.DirectiveNames.{kept_name};
 ghost use Rattle.inc_report.specs.Documents as spec;
-ghost use Rattle.inc_report.specs.Documents.{block_text, counted, document_text, edge_places, listed, place_text, places, seen_block};
+ghost use Rattle.inc_report.specs.Documents.{block_text, counted, document_text, edge_places, first_places, listed, more_blocks, place_text, places, seen_block};
 ghost use Rattle.inc_report.specs.MissingNotes.{shown};
 
+use crate::bounds::{put_more, shown_count};
 use crate::changes::directives_of;
 use crate::directive_names::NameTable;
 use crate::kept_sources::KeptFiles;
@@ -101,15 +102,42 @@ impl Document {
         self.add_places(&directives)
     }
 
-    /// Adds how many directives there are, and each; nothing where there are none.
+    /// Adds that so many elements more are not printed, where some are.
+    pub fn add_more(&mut self, alloc: Global, count: usize) -> Result<(), AllocError>
+        ensures { OnOk result (self.new ≡ self.old ++ more_blocks count) }
+    {
+        if count == 0 {
+            return Ok(());
+        }
+        let mut text = Vec::new(alloc);
+        put_more(&mut text, count)?;
+        self.add_words(text)
+    }
+
+    /// Adds at most so many directives, and how many more there are.
+    fn add_first(
+        &mut self,
+        alloc: Global,
+        directives: &[DirectiveId],
+        most: Option<usize>,
+    ) -> Result<(), AllocError>
+        ensures { OnOk result (self.new ≡ self.old ++ first_places most directives.now) }
+    {
+        let shown = shown_count(most, directives.len());
+        self.add_places(&directives[..shown])?;
+        self.add_more(alloc, directives.len() - shown)
+    }
+
+    /// Adds how many directives there are, and at most so many of them; nothing where there are none.
     pub fn add_list(
         &mut self,
         alloc: Global,
         one: &[u8],
         many: &[u8],
         directives: &[DirectiveId],
+        most: Option<usize>,
     ) -> Result<(), AllocError>
-        ensures { OnOk result (self.new ≡ self.old ++ listed one.now many.now directives.now) }
+        ensures { OnOk result (self.new ≡ self.old ++ listed most one.now many.now directives.now) }
     {
         if directives.is_empty() {
             return Ok(());
@@ -117,7 +145,7 @@ impl Document {
         let mut text = Vec::new(alloc);
         put_counted(&mut text, directives.len(), one, many)?;
         self.add_words(text)?;
-        self.add_places(directives)
+        self.add_first(alloc, directives, most)
     }
 
     /// Its text, by what is kept of the files of its directives.

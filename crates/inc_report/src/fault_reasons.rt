@@ -1,32 +1,11 @@
 //! The line that says why a file is bad, beside the refusal.
-ghost use Rattle.std.specs.Prelude.{◌≡◌, ◌++◌, IfErr, IfOk, OnOk};
+ghost use Rattle.std.specs.Prelude.{◌≡◌, ◌++◌, IfOk, OnOk};
 ghost use Rattle.inc_directive.specs.FileDirectives.{bad_line};
-ghost use Rattle.inc_report.specs.FaultReasons.{bad_file, bad_file_line, balance_words, fault_words, reason_line};
-ghost use Rattle.inc_report.specs.Writing.{Prints};
+ghost use Rattle.inc_report.specs.FaultReasons.{bad_file_line, balance_words, fault_words, reason_line};
 
 use crate::missing_notes::{Notes, put_number, put_shown};
-use crate::outcome::{End, RunFault};
-use crate::output::Output;
-use crate::refusals::{Refusal, refuse_for};
 use inc_directive::{BalanceFault, FileFault};
-use inc_text::ByteSink;
 use std::alloc::{AllocError, Global};
-
-/// Sends the refusal of a file with this path and fault, and says beside it what the fault is, under what the file is called.
-pub(crate) fn refuse_bad_file<W: ByteSink>(
-    alloc: Global,
-    path: &[u8],
-    title: &[u8],
-    fault: FileFault,
-    out: &mut Output<W>,
-) -> Result<End, RunFault>
-    ensures sent { Prints (λ p. p ≡ bad_file path.now title.now fault) out.old out.new result }
-    ensures fault { IfErr result (λ f. f ≡ RunFault.NoMemory) }
-{
-    let reason = bad_file_line(alloc, title, fault)?;
-    let line = bad_line(fault);
-    Ok(refuse_for(out, Refusal::BadFile { path, line }, reason))
-}
 
 /// The line on a file that is called so.
 pub(crate) fn bad_file_line(

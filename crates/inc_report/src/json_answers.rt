@@ -1,7 +1,7 @@
-//! What `why`, `who` and `cut` answer, as objects of JSON.
+//! What `why`, `who`, `graph` and `cut` answer, as objects of JSON.
 ghost use Rattle.std.specs.Prelude.{◌≡◌, ◌≤◌, ◌∷◌, [], length, option_map, IfOk, OnOk};
 ghost use Rattle.inc_graph.specs.Cuts as cuts;
-ghost use Rattle.inc_report.specs.JsonAnswers.{about_of, about_subject, cut_json, fixed_json, found_text, from_text, front_text, puts, sets_ends, to_text, who_json, why_ends, why_json};
+ghost use Rattle.inc_report.specs.JsonAnswers.{about_of, about_subject, cut_json, fixed_json, found_text, from_text, front_text, graph_json, puts, sets_ends, to_text, who_json, why_ends, why_json};
 
 use crate::json_parts::JsonText;
 use crate::subjects::Subject;
@@ -157,6 +157,23 @@ pub(crate) fn who_json(
     json.put(b",\"status\":0,")?;
     put_to(&mut json)?;
     json.put(b"}\n")?;
+    Ok(json.into_text())
+}
+
+/// Which edges the sources reach.
+pub(crate) fn graph_json(alloc: Global, subject: Subject<'_>) -> Result<Vec<u8>, AllocError>
+    ensures { IfOk result (λ text. text.items ≡ graph_json (about_subject subject.entry)) }
+{
+    let mut json = JsonText::new(alloc, subject)?;
+    json.put(b"{\"blocked\":")?;
+    json.put_blocked()?;
+    json.put(b",\"command\":\"graph\",\"edges\":")?;
+    json.put_all_edges()?;
+    json.put(b",\"format\":1,")?;
+    put_from(&mut json)?;
+    json.put(b",\"missing\":")?;
+    json.put_missing()?;
+    json.put(b",\"status\":0}\n")?;
     Ok(json.into_text())
 }
 

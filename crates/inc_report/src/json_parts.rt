@@ -1,11 +1,11 @@
 //! Parts of the answers as texts of JSON: paths, directives, and lists of them.
-ghost use Rattle.std.specs.Prelude.{◌≡◌, ◌<◌, ◌++◌, None, codes, decimal, length, option_map, slice_get, IfOk, OnOk};
+ghost use Rattle.std.specs.Prelude.{◌≡◌, ◌<◌, ◌++◌, None, codes, decimal, length, map, option_map, slice_get, IfOk, OnOk};
 ghost use Rattle.inc_graph.specs.Views.{seen_edge};
 ghost use Rattle.inc_lookup.specs.Projects.{path_at};
 ghost use Rattle.inc_report.specs.Fitting.{counted_as};
-ghost use Rattle.inc_report.specs.JsonAnswers.{about_of, begun, blocked_text, blocker_text, blockers_text, chain_if, chains_text, counted_item, counted_text, edge_text, edges_text, file_item, file_member, files_text, missing_item, missing_text, named_form, names_text, numbered_text, place_text, puts, shortest_text, source_item, sources_text};
+ghost use Rattle.inc_report.specs.JsonAnswers.{about_of, begun, blocked_text, blocker_text, blockers_text, chain_if, chains_text, counted_item, counted_text, edge_text, edges_text, file_item, file_member, files_text, links_text, missing_item, missing_text, named_form, names_text, numbered_text, place_text, puts, shortest_text, source_item, sources_text};
 ghost use Rattle.inc_report.specs.JsonDirectives.{directive_text};
-ghost use Rattle.inc_report.specs.JsonTexts.{bytes_member, comma_at, number_member};
+ghost use Rattle.inc_report.specs.JsonTexts.{bytes_member, comma_at, list_of, number_member};
 ghost use Rattle.inc_report.specs.Views.{AreWithin, seen_name, seen_names};
 
 use crate::directive_names::NameTable;
@@ -187,6 +187,27 @@ impl<'s> JsonText<'s> {
             line: edge.line,
         };
         self.put_place(directive, Some(edge.to))
+    }
+
+    /// Adds the directives of all edges, as a list.
+    pub fn put_all_edges(&mut self) -> Result<(), AllocError>
+        ensures { OnOk result (self.new ≡ puts self.old (links_text (about_of self.old) self.old.graph.edges)) }
+    {
+        let graph = self.graph();
+        self.put_links(graph.edges())
+    }
+
+    /// Adds the directives of these edges, as a list.
+    fn put_links(&mut self, edges: &[Edge]) -> Result<(), AllocError>
+        ensures { OnOk result (self.new ≡ puts self.old (list_of
+            (map (λ (e : Edge). edge_text (about_of self.old) (seen_edge e)) edges.now))) }
+    {
+        self.put(b"[")?;
+        for place in 0..edges.len() {
+            self.put_comma(place)?;
+            self.put_link(&edges[place])?;
+        }
+        self.put(b"]")
     }
 
     /// Adds the directives of edges, as a list.

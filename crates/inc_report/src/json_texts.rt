@@ -44,7 +44,7 @@ fn put_escaped(text: &mut Vec<u8>, byte: u8) -> Result<(), AllocError>
 }
 
 /// Adds a byte in base 16.
-fn put_hex_byte(text: &mut Vec<u8>, byte: u8) -> Result<(), AllocError>
+pub(crate) fn put_hex_byte(text: &mut Vec<u8>, byte: u8) -> Result<(), AllocError>
     ensures { OnOk result (text.new.items ≡ text.old.items ++ hex_byte byte) }
 {
     text.push(hex_digit(byte / 16))?;

@@ -1,5 +1,5 @@
 //! What holds of every printed answer, and of every cut. The functions do nothing: what they ensure is what holds.
-ghost use Rattle.std.specs.Prelude.{◌≡◌, ℕ, Bool, List, [], ◌∷◌, Ok, Err};
+ghost use Rattle.std.specs.Prelude.{◌≡◌, ℕ, Bool, List, [], ◌∷◌, Option, Ok, Err};
 ghost use Rattle.std.specs.Option.{option_map_or};
 ghost use Rattle.inc_lookup.specs.Projects.{Layout, Listing};
 ghost use Rattle.inc_report.specs.GraphText.{IsGraph};
@@ -13,13 +13,14 @@ ghost use Rattle.inc_report.specs.WhyText.{IsWhy};
 /// Two answers to how a header reaches a source are the same, in their text and in how the call ends. So the clauses of `run_why`
 /// leave it one text.
 pub fn answers_to_why_are_one()
-    ensures { (q : Question) (listing : Listing) (a b : Printed) → IsWhy q listing a → IsWhy q listing b → a ≡ b }
+    ensures { (most : Option ℕ) (q : Question) (listing : Listing) (a b : Printed) →
+        IsWhy most q listing a → IsWhy most q listing b → a ≡ b }
 {}
 
 /// Two answers to which sources reach a header are the same, with chains or without.
 pub fn answers_to_who_are_one()
-    ensures { (with_chains : Bool) (q : Question) (listing : Listing) (a b : Printed) →
-        IsWho with_chains q listing a → IsWho with_chains q listing b → a ≡ b }
+    ensures { (with_chains : Bool) (most : Option ℕ) (q : Question) (listing : Listing) (a b : Printed) →
+        IsWho with_chains most q listing a → IsWho with_chains most q listing b → a ≡ b }
 {}
 
 /// Two answers to which edges the sources reach are the same.

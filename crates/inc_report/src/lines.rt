@@ -1,6 +1,7 @@
 //! Numbers and lines of the printed texts.
 ghost use Rattle.std.specs.Prelude.{◌≤◌, decimal};
 ghost use Rattle.inc_check.specs.Texts.{line_text};
+ghost use Rattle.inc_report.specs.MarkTexts.{more_text};
 ghost use Rattle.inc_report.specs.Numbers.{count_text, directive_text, point_text};
 ghost use Rattle.inc_report.specs.Sending.{Sends};
 
@@ -45,6 +46,18 @@ pub(crate) fn send_count_line<W: ByteSink>(out: &mut Output<W>, word: &[u8], n: 
     out.send(b" ");
     send_number(out, n as u64);
     out.send(b"\n");
+}
+
+/// Sends that so many elements more are not printed, where some are.
+pub(crate) fn send_more<W: ByteSink>(out: &mut Output<W>, count: usize)
+    ensures { Sends out.old out.new (more_text count) }
+{
+    if count == 0 {
+        return;
+    }
+    out.send(b".. and ");
+    send_number(out, count as u64);
+    out.send(b" more\n");
 }
 
 /// Sends the line of a directive: its line and the path of its file. There is room for most.

@@ -15,11 +15,11 @@ ghost use Rattle.inc_report.specs.Documents.{AreGraphKept, document_text};
 ghost use Rattle.inc_report.specs.JsonAnswers.{about_subject, why_json};
 ghost use Rattle.inc_report.specs.JsonRefusals.{mark_items, refusal_json, refusal_object};
 ghost use Rattle.inc_report.specs.NamedHeadline.{NamedHeadline};
-ghost use Rattle.inc_report.specs.NamedText.{IsHinderedKept, IsInAnyFormat, IsNamedBy, IsNamedKept, IsReport, answer_lines, answer_text, command_name};
+ghost use Rattle.inc_report.specs.NamedText.{IsHinderedKept, IsInAnyFormat, IsNamedBy, IsNamedKept, IsReport, answer_lines, answer_text, asks_headers, command_name};
 ghost use Rattle.inc_report.specs.Printed.{Printed, refused_for};
 ghost use Rattle.inc_report.specs.Questions.{FailsAt, IsStopped, IsWithin, unread_by};
 ghost use Rattle.inc_report.specs.Refusals.{Blocked};
-ghost use Rattle.inc_report.specs.Told.{Chains, FixedChain, Removed, Sources, chain_found, told_printed};
+ghost use Rattle.inc_report.specs.Told.{Chains, Edges, FixedChain, Removed, Sources, chain_found, told_printed};
 ghost use Rattle.inc_report.specs.Views.{seen_refusal};
 ghost use Rattle.inc_report.specs.WhyText.{why_notes};
 ghost use Rattle.inc_report.specs.Writing.{Prints, Writes, is_of_certificate, unread_of};
@@ -29,7 +29,9 @@ use crate::blocked_reasons::blocked_reasons;
 use crate::cut::nearest_cut;
 use crate::cut_document::{ChainForm, cut_document, fixed_document};
 use crate::documents::Document;
-use crate::json_answers::{cut_json, fixed_json, who_json, why_json};
+use crate::dot_text::{chains_dot, cut_dot, fixed_dot, graph_dot};
+use crate::graph_document::graph_document;
+use crate::json_answers::{cut_json, fixed_json, graph_json, who_json, why_json};
 use crate::json_refusals::{blocked_json, refusal_json};
 use crate::kept_sources::KeptSources;
 use crate::limits::{Hindrance, amounts_of, refusal_of, refuse_hindrance};
@@ -55,11 +57,23 @@ pub enum Asked {
     Why,
     /// Which sources a header reaches, as [`run_who`](crate::run_who) tells it.
     Who,
+    /// Which edges the sources reach, as [`run_graph`](crate::run_graph) tells it.
+    Graph,
     /// Which directives to remove so that no header does, as [`run_cut`](crate::run_cut) tells it.
     Cut,
 }
 
 impl Asked {
+    /// Whether it is about headers, too.
+    pub fn has_headers(self) -> bool
+        ensures { result ≡ asks_headers self }
+    {
+        match self {
+            Asked::Graph => false,
+            _ => true,
+        }
+    }
+
     /// The name of the command.
     fn name(self) -> &'static [u8]
         ensures { result.now ≡ command_name self }
@@ -67,6 +81,7 @@ impl Asked {
         match self {
             Asked::Why => b"why",
             Asked::Who => b"who",
+            Asked::Graph => b"graph",
             Asked::Cut => b"cut",
         }
     }
@@ -79,6 +94,8 @@ pub enum Format {
     Gcc,
     /// As an object of JSON, on one line.
     Json,
+    /// As a graph that graphviz draws, with the edges of all chains and of the cut.
+    Dot,
 }
 
 /// What is asked, how it is written and how much of it.
@@ -88,6 +105,8 @@ pub struct NamedForm {
     pub format: Format,
     /// Whether each chain is shown whole.
     pub all: bool,
+    /// How many chains, and how many sources, stand in lines at most; all where no number is given. A cut and a shortest chain are whole.
+    pub most: Option<usize>,
 }
 
 /// Writes an answer in which a directive stands with its file, its line and how it is written: as a line for each, with lines between
@@ -179,7 +198,7 @@ fn refuse<W: ByteSink>(
     ensures certificate { IfErr result (λ f. is_of_certificate f ≡ false) }
 {
     match form.format {
-        Format::Gcc => refuse_question(alloc, project, question, cause, out),
+        Format::Gcc | Format::Dot => refuse_question(alloc, project, question, cause, out),
         Format::Json => {
             let (refusal, reason) = refusal_of_question(alloc, project, question, cause)?;
             Ok(refusal_report(alloc, form.asked, refusal, reason)?.send(out))
@@ -222,6 +241,7 @@ fn answer_graph<W: ByteSink>(
     match form.asked {
         Asked::Why => Ok(explain(alloc, subject, form)?.send(out)),
         Asked::Who => Ok(tell(alloc, subject, form)?.send(out)),
+        Asked::Graph => Ok(list(alloc, subject, form)?.send(out)),
         Asked::Cut => separate(alloc, subject, limits, form, out),
     }
 }
@@ -262,15 +282,17 @@ fn why_text(
     chains: &mut ShortestChains<'_>,
     form: NamedForm,
 ) -> Result<Vec<u8>, AllocError>
+    requires files { subject.graph.now.files ≡ length subject.project.now.paths }
     requires graph { chains.old.graph ≡ subject.graph.now }
     requires shortest { IsShortestOrNone subject.graph.now (chain_found found chains.old.chain) }
     requires chains { AreChainsByLast subject.graph.now 0 chains.old.left }
-    ensures { IfOk result (λ text. text.items ≡ answer_text form false (about_subject subject.entry)
+    ensures { IfOk result (λ text. text.items ≡ answer_text form false [] (about_subject subject.entry)
         (Chains (chain_found found chains.old.chain) chains.old.left)) }
 {
     match form.format {
-        Format::Gcc => why_lines(alloc, subject, found, chains, form.all),
+        Format::Gcc => why_lines(alloc, subject, found, chains, form),
         Format::Json => why_object(alloc, subject, found, chains),
+        Format::Dot => chains_dot(alloc, subject, chains),
     }
 }
 
@@ -280,17 +302,18 @@ fn why_lines(
     subject: Subject<'_>,
     found: bool,
     chains: &mut ShortestChains<'_>,
-    all: bool,
+    form: NamedForm,
 ) -> Result<Vec<u8>, AllocError>
     requires graph { chains.old.graph ≡ subject.graph.now }
     requires shortest { IsShortestOrNone subject.graph.now (chain_found found chains.old.chain) }
     requires chains { AreChainsByLast subject.graph.now 0 chains.old.left }
-    ensures { IfOk result (λ text. text.items ≡ answer_lines all false (about_subject subject.entry)
+    ensures { IfOk result (λ text. text.items ≡ answer_lines form.all false form.most (about_subject subject.entry)
         (Chains (chain_found found chains.old.chain) chains.old.left)) }
 {
     let Subject { project, graph, .. } = subject;
+    let NamedForm { all, most, .. } = form;
     if found {
-        let document = reached_document(alloc, project, graph, chains, all)?;
+        let document = reached_document(alloc, project, graph, chains, all, most)?;
         return lines_of(alloc, subject, &document);
     }
     let document = unreached_document(alloc, project, graph, all)?;
@@ -338,20 +361,50 @@ fn who_text(
     chains: &mut ShortestChains<'_>,
     form: NamedForm,
 ) -> Result<Vec<u8>, AllocError>
+    requires files { subject.graph.now.files ≡ length subject.project.now.paths }
     requires graph { reaching.old.graph ≡ subject.graph.now }
     requires edges { All (λ (r : Reaching). All (λ i. i < length subject.graph.now.edges) r.chain) reaching.old.left }
     requires chains { All (λ chain. All (λ i. i < length subject.graph.now.edges) chain) chains.old.left }
-    ensures { IfOk result (λ text. text.items ≡ answer_text form false (about_subject subject.entry)
+    ensures { IfOk result (λ text. text.items ≡ answer_text form false [] (about_subject subject.entry)
         (Sources reaching.old.left chains.old.left)) }
 {
-    let all = form.all;
+    let NamedForm { all, most, .. } = form;
     match form.format {
         Format::Gcc => {
             let Subject { project, graph, .. } = subject;
-            let document = who_document(alloc, project, graph, reaching, chains, all)?;
+            let document = who_document(alloc, project, graph, reaching, chains, all, most)?;
             lines_of(alloc, subject, &document)
         }
         Format::Json => who_json(alloc, subject, reaching, chains, all),
+        Format::Dot => chains_dot(alloc, subject, chains),
+    }
+}
+
+/// Which edges the sources reach.
+fn list(alloc: Global, subject: Subject<'_>, form: NamedForm) -> Result<Told, AllocError>
+    requires { subject.graph.now.files ≡ length subject.project.now.paths }
+    ensures { IfOk result (λ report. IsReport Asked.Graph form false (about_subject subject.entry) []
+        (told_printed report)) }
+{
+    Ok(Told {
+        text: graph_text(alloc, subject, form)?,
+        kind: EndKind::Answered,
+        notes: Notes::none(),
+    })
+}
+
+/// The text of all edges.
+fn graph_text(alloc: Global, subject: Subject<'_>, form: NamedForm) -> Result<Vec<u8>, AllocError>
+    requires { subject.graph.now.files ≡ length subject.project.now.paths }
+    ensures { IfOk result (λ text. text.items ≡ answer_text form false [] (about_subject subject.entry) Edges) }
+{
+    match form.format {
+        Format::Gcc => {
+            let document = graph_document(alloc, subject.project, subject.graph)?;
+            lines_of(alloc, subject, &document)
+        }
+        Format::Json => graph_json(alloc, subject),
+        Format::Dot => graph_dot(alloc, subject),
     }
 }
 
@@ -386,7 +439,9 @@ fn separate<W: ByteSink>(
             Ok(smallest(alloc, subject, &fixed, costed, form)?.send(out))
         }
         Err(cause) => match form.format {
-            Format::Gcc => refuse_hindrance(alloc, project, graph, limits, cause, out),
+            Format::Gcc | Format::Dot => {
+                refuse_hindrance(alloc, project, graph, limits, cause, out)
+            }
             Format::Json => Ok(hindrance_report(alloc, subject, limits, cause)?.send(out)),
         },
     }
@@ -459,12 +514,12 @@ fn smallest(
     let notes = empty_notes(alloc, project, graph)?;
     match answer {
         CutAnswer::Cut { edges, chains } => {
-            let text = cut_text(alloc, subject, edges, chains, costed, form)?;
+            let text = cut_text(alloc, subject, edges, chains, fixed, costed, form)?;
             let kind = EndKind::Answered;
             Ok(Told { text, kind, notes })
         }
         CutAnswer::Fixed { chain } => {
-            let text = fixed_text(alloc, subject, chain.edges.as_slice(), costed, form)?;
+            let text = fixed_text(alloc, subject, chain.edges.as_slice(), fixed, costed, form)?;
             let kind = EndKind::Negative;
             Ok(Told { text, kind, notes })
         }
@@ -477,24 +532,28 @@ fn cut_text(
     subject: Subject<'_>,
     cut: &[EdgeId],
     chains: &CountedChains,
+    fixed: &Fixed,
     costed: bool,
     form: NamedForm,
 ) -> Result<Vec<u8>, AllocError>
+    requires files { subject.graph.now.files ≡ length subject.project.now.paths }
+    requires fixed { length fixed.now ≡ length subject.graph.now.edges }
     requires cut { All (λ i. i < length subject.graph.now.edges) cut.now }
     requires chains { All (λ (c : cuts.Counted). All (λ i. i < length subject.graph.now.edges) c.chain) chains.now }
     requires few { length chains.now ≤ 4_294_967_295 }
-    ensures { IfOk result (λ text. text.items ≡ answer_text form costed (about_subject subject.entry)
+    ensures { IfOk result (λ text. text.items ≡ answer_text form costed fixed.now (about_subject subject.entry)
         (Removed cut.now chains.now)) }
 {
     match form.format {
         Format::Gcc => {
             let Subject { project, graph, .. } = subject;
-            let all = form.all;
-            let lines = ChainForm { all, costed };
+            let NamedForm { all, most, .. } = form;
+            let lines = ChainForm { all, most, costed };
             let document = cut_document(alloc, project, graph, cut, chains, lines)?;
             lines_of(alloc, subject, &document)
         }
         Format::Json => cut_json(alloc, subject, cut, chains),
+        Format::Dot => cut_dot(alloc, subject, cut, chains, fixed),
     }
 }
 
@@ -503,11 +562,14 @@ fn fixed_text(
     alloc: Global,
     subject: Subject<'_>,
     chain: &[EdgeId],
+    fixed: &Fixed,
     costed: bool,
     form: NamedForm,
 ) -> Result<Vec<u8>, AllocError>
-    requires { All (λ i. i < length subject.graph.now.edges) chain.now }
-    ensures { IfOk result (λ text. text.items ≡ answer_text form costed (about_subject subject.entry)
+    requires files { subject.graph.now.files ≡ length subject.project.now.paths }
+    requires fixed { length fixed.now ≡ length subject.graph.now.edges }
+    requires chain { All (λ i. i < length subject.graph.now.edges) chain.now }
+    ensures { IfOk result (λ text. text.items ≡ answer_text form costed fixed.now (about_subject subject.entry)
         (FixedChain chain.now)) }
 {
     match form.format {
@@ -516,5 +578,6 @@ fn fixed_text(
             lines_of(alloc, subject, &document)
         }
         Format::Json => fixed_json(alloc, subject, chain),
+        Format::Dot => fixed_dot(alloc, subject, chain, fixed),
     }
 }

@@ -1,23 +1,40 @@
 //! The include directives of one file.
-ghost use Rattle.std.specs.Prelude.{◌≡◌, false, true, option_to_list, IfErr, IfOk};
+ghost use Rattle.std.specs.Prelude.{◌≡◌, Err, false, true, option_to_list, IfErr, IfOk};
 ghost use Rattle.std.specs.List.{concat};
 ghost use Rattle.inc_directive.specs.DirectiveViews.{seen_directive};
 ghost use Rattle.inc_directive.specs.FileDirectives.{directives_in};
 ghost use Rattle.inc_directive.specs.KindViews.{seen_target};
 ghost use Rattle.inc_directive.specs.Parts.{lines_of_parts};
-ghost use Rattle.inc_report.specs.Refusals.{TooLong, refusal};
-ghost use Rattle.inc_report.specs.ScanText.{target_text, entry_of, scan_text, scan};
+ghost use Rattle.inc_report.specs.Printed.{answered, refused_for};
+ghost use Rattle.inc_report.specs.ScanForms.{form_text, refusal_form, scan, scan_result, too_long};
+ghost use Rattle.inc_report.specs.ScanText.{target_text, entry_of, scan_text};
 ghost use Rattle.inc_report.specs.Sending.{Sends};
+ghost use Rattle.inc_report.specs.Views.{seen_refusal};
 ghost use Rattle.inc_report.specs.Writing.{Prints, Writes, is_own};
 
-use crate::fault_reasons::refuse_bad_file;
+use crate::fault_reasons::{bad_file_line, bad_line};
+use crate::json_refusals::refusal_json;
 use crate::lines::{send_count_line, send_line, send_number};
+use crate::missing_notes::Notes;
 use crate::outcome::{End, EndKind, RunFault, plain};
 use crate::output::Output;
-use crate::refusals::{Refusal, refuse};
-use inc_directive::{Directive, DirectiveKind, FileLines, LineKind, Target, read_lines};
+use crate::refusals::{Refusal, refuse_for};
+use crate::scan_forms::{place_lines, scan_json};
+use crate::subjects::Told;
+use inc_directive::{Directive, DirectiveKind, FileFault, FileLines, LineKind, Target, read_lines};
 use inc_text::{ByteSink, LONGEST_FILE, Language, TextFault, splice_owned};
 use std::alloc::{AllocError, Global};
+
+/// How the directives of a file are printed.
+#[derive(Clone, Copy, Debug, PartialEq, Eq)]
+pub enum ScanForm {
+    /// In lines for scripts.
+    Text,
+    /// Each as it is written, with its file and line in front, as compilers and grep print a place.
+    Gcc,
+    /// As an object of JSON, on one line.
+    Json,
+}
 
 /// Writes the include directives of a source, and those that are no directives of C but include too, in whatever
 /// group they are. The path is only printed.
@@ -26,18 +43,19 @@ pub fn run_scan<W: ByteSink>(
     path: &[u8],
     source: &[u8],
     language: Language,
+    form: ScanForm,
     w: W,
 ) -> (Result<End, RunFault>, W)
     requires { W.has_failed w ≡ false }
-    ensures written { Writes (λ p. p ≡ scan language path.now path.now source.now)
+    ensures written { Writes (λ p. p ≡ scan form language path.now path.now source.now)
         (W.written w) (W.written result.1) (W.has_failed result.1) result.0 }
     ensures own { IfErr result.0 (λ f. is_own f ≡ true) }
 {
     if source.len() > LONGEST_FILE {
-        return run_scan_too_long(alloc, w);
+        return run_scan_too_long(alloc, form, w);
     }
     match copied(alloc, source) {
-        Ok(bytes) => run_scan_owned(alloc, path, path, bytes, language, w),
+        Ok(bytes) => run_scan_owned(alloc, path, path, bytes, language, form, w),
         Err(_) => (Err(RunFault::NoMemory), w),
     }
 }
@@ -59,10 +77,11 @@ pub fn run_scan_owned<W: ByteSink>(
     title: &[u8],
     source: Vec<u8>,
     language: Language,
+    form: ScanForm,
     w: W,
 ) -> (Result<End, RunFault>, W)
     requires { W.has_failed w ≡ false }
-    ensures written { Writes (λ p. p ≡ scan language path.now title.now source.items)
+    ensures written { Writes (λ p. p ≡ scan form language path.now title.now source.items)
         (W.written w) (W.written result.1) (W.has_failed result.1) result.0 }
     ensures own { IfErr result.0 (λ f. is_own f ≡ true) }
 {
@@ -70,14 +89,18 @@ pub fn run_scan_owned<W: ByteSink>(
         Ok(out) => out,
         Err(w) => return (Err(RunFault::NoMemory), w),
     };
-    let ended = scan_source(alloc, &mut out, path, title, source, language);
+    let ended = scan_source(alloc, &mut out, path, title, source, language, form);
     out.finish(ended)
 }
 
 /// Writes the refusal of a source of more than 16,777,216 bytes, where a caller cannot hand it in whole.
-pub fn run_scan_too_long<W: ByteSink>(alloc: Global, w: W) -> (Result<End, RunFault>, W)
+pub fn run_scan_too_long<W: ByteSink>(
+    alloc: Global,
+    form: ScanForm,
+    w: W,
+) -> (Result<End, RunFault>, W)
     requires { W.has_failed w ≡ false }
-    ensures written { Writes (λ p. p ≡ refusal TooLong)
+    ensures written { Writes (λ p. p ≡ too_long form)
         (W.written w) (W.written result.1) (W.has_failed result.1) result.0 }
     ensures own { IfErr result.0 (λ f. is_own f ≡ true) }
 {
@@ -85,8 +108,8 @@ pub fn run_scan_too_long<W: ByteSink>(alloc: Global, w: W) -> (Result<End, RunFa
         Ok(out) => out,
         Err(w) => return (Err(RunFault::NoMemory), w),
     };
-    let end = refuse(&mut out, Refusal::TooLong);
-    out.finish(Ok(end))
+    let ended = refuse_in(alloc, &mut out, form, Refusal::TooLong, Notes::none());
+    out.finish(ended)
 }
 
 /// Sends the text for a source, and answers how the call ends.
@@ -97,25 +120,89 @@ fn scan_source<W: ByteSink>(
     title: &[u8],
     source: Vec<u8>,
     language: Language,
+    form: ScanForm,
 ) -> Result<End, RunFault>
-    ensures sent { Prints (λ p. p ≡ scan language path.now title.now source.items) out.old out.new result }
+    ensures sent { Prints (λ p. p ≡ scan form language path.now title.now source.items) out.old out.new result }
     ensures own { IfErr result (λ f. is_own f ≡ true) }
 {
     let text = match splice_owned(alloc, source, language) {
         Ok(text) => text,
-        Err(TextFault::TooLong) => return Ok(refuse(out, Refusal::TooLong)),
+        Err(TextFault::TooLong) => {
+            return refuse_in(alloc, out, form, Refusal::TooLong, Notes::none());
+        }
         Err(TextFault::NoMemory) => return Err(RunFault::NoMemory),
     };
     match read_lines(alloc, text, language) {
-        Ok(found) => {
-            send_entries(out, &found);
-            Ok(plain(EndKind::Answered))
-        }
+        Ok(found) => send_found(alloc, out, path, &found, form),
         Err(fault) => match fault.line() {
-            Some(_) => refuse_bad_file(alloc, path, title, fault, out),
+            Some(_) => refuse_bad_file(alloc, out, path, title, fault, form),
             None => Err(RunFault::NoMemory),
         },
     }
+}
+
+/// Sends the refusal of a file with this path and fault, and says beside it what the fault is, under what the file is called.
+fn refuse_bad_file<W: ByteSink>(
+    alloc: Global,
+    out: &mut Output<W>,
+    path: &[u8],
+    title: &[u8],
+    fault: FileFault,
+    form: ScanForm,
+) -> Result<End, RunFault>
+    ensures sent { Prints (λ p. p ≡ scan_result form path.now title.now (Err fault)) out.old out.new result }
+    ensures own { IfErr result (λ f. is_own f ≡ true) }
+{
+    let reason = bad_file_line(alloc, title, fault)?;
+    let line = bad_line(fault);
+    refuse_in(alloc, out, form, Refusal::BadFile { path, line }, reason)
+}
+
+/// Sends a refusal, with a reason beside it.
+fn refuse_in<W: ByteSink>(
+    alloc: Global,
+    out: &mut Output<W>,
+    form: ScanForm,
+    refusal: Refusal<'_>,
+    reason: Notes,
+) -> Result<End, RunFault>
+    ensures sent { Prints (λ p. p ≡ refused_for reason (refusal_form form (seen_refusal refusal.entry))) out.old out.new result }
+    ensures own { IfErr result (λ f. is_own f ≡ true) }
+{
+    if form != ScanForm::Json {
+        return Ok(refuse_for(out, refusal, reason));
+    }
+    let report = Told {
+        text: refusal_json(alloc, b"scan", refusal)?,
+        kind: EndKind::Refused,
+        notes: reason,
+    };
+    Ok(report.send(out))
+}
+
+/// Sends the directives of a file.
+fn send_found<W: ByteSink>(
+    alloc: Global,
+    out: &mut Output<W>,
+    path: &[u8],
+    found: &FileLines,
+    form: ScanForm,
+) -> Result<End, RunFault>
+    ensures sent { Prints (λ p. p ≡ answered (form_text form path.now (directives_in (lines_of_parts found.now)))) out.old out.new result }
+    ensures own { IfErr result (λ f. is_own f ≡ true) }
+{
+    match form {
+        ScanForm::Text => send_entries(out, found),
+        ScanForm::Gcc => {
+            let text = place_lines(alloc, path, found)?;
+            out.send(&text);
+        }
+        ScanForm::Json => {
+            let text = scan_json(alloc, path, found)?;
+            out.send(&text);
+        }
+    }
+    Ok(plain(EndKind::Answered))
 }
 
 /// Sends how many of the directives include, and a line for each.

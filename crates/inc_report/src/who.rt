@@ -1,17 +1,17 @@
 //! Which sources reach a header.
-ghost use Rattle.std.specs.Prelude.{◌≡◌, ◌<◌, ◌++◌, None, false, codes, length, flat_map, IfOk, IfSome, IfErr};
+ghost use Rattle.std.specs.Prelude.{◌≡◌, ◌<◌, ◌≤◌, None, false, length, flat_map, take, IfOk, IfSome, IfErr};
 ghost use Rattle.std.specs.List.{All};
 ghost use Rattle.inc_lookup.specs.Given.{HoldsOfGiven};
 ghost use Rattle.inc_graph.specs.Reaching.{Reaching};
-ghost use Rattle.inc_report.specs.Numbers.{count_text};
 ghost use Rattle.inc_report.specs.Questions.{FailsAt};
 ghost use Rattle.inc_report.specs.Sending.{Sends};
-ghost use Rattle.inc_report.specs.WhoText.{chain_if, reaching_text, who_notes, IsWhoOf, IsWhoBy};
+ghost use Rattle.inc_report.specs.WhoText.{chain_if, reaching_text, sources_text, who_notes, IsWhoOf, IsWhoBy};
 ghost use Rattle.inc_report.specs.Writing.{Prints, Writes, is_of_certificate, unread_of};
 
 use crate::asked::Question;
+use crate::bounds::shown_count;
 use crate::edges::send_list;
-use crate::lines::{send_count_line, send_directive};
+use crate::lines::{send_count_line, send_directive, send_more};
 use crate::missing_notes::{Notes, unreached_notes};
 use crate::outcome::{End, EndKind, RunFault, noted};
 use crate::output::Output;
@@ -23,7 +23,7 @@ use inc_text::ByteSink;
 use std::alloc::{AllocError, Global};
 
 /// Writes which sources reach a header, each with the number of directives of its shortest chain, and with this chain where chains are
-/// asked for; then what [`run_why`](crate::run_why) writes after its shortest chain. Files are read when they are reached, each once, the
+/// asked for; then what [`run_why`](crate::run_why) writes after its shortest chain. Of sources and of chains at most `most` are written. Files are read when they are reached, each once, the
 /// headers never. All memory is taken before the first byte is written.
 pub fn run_who<S: Sources, W: ByteSink>(
     alloc: Global,
@@ -31,11 +31,12 @@ pub fn run_who<S: Sources, W: ByteSink>(
     sources: &mut S,
     question: &Question<'_>,
     with_chains: bool,
+    most: Option<usize>,
     w: W,
 ) -> (Result<End, RunFault>, W)
     requires { W.has_failed w ≡ false }
     ensures written { Writes (λ p. HoldsOfGiven S.gives sources.old sources.new project.now
-        (IsWhoBy with_chains question.now p))
+        (IsWhoBy with_chains most question.now p))
         (W.written w) (W.written result.1) (W.has_failed result.1) result.0 }
     ensures unread { IfErr result.0 (λ fault. IfSome (unread_of fault)
         (FailsAt S.gives sources.old sources.new project.now question.now)) }
@@ -45,7 +46,15 @@ pub fn run_who<S: Sources, W: ByteSink>(
         Ok(out) => out,
         Err(w) => return (Err(RunFault::NoMemory), w),
     };
-    let ended = tell(alloc, project, sources, question, with_chains, &mut out);
+    let ended = tell(
+        alloc,
+        project,
+        sources,
+        question,
+        with_chains,
+        most,
+        &mut out,
+    );
     out.finish(ended)
 }
 
@@ -56,16 +65,17 @@ fn tell<S: Sources, W: ByteSink>(
     sources: &mut S,
     question: &Question<'_>,
     with_chains: bool,
+    most: Option<usize>,
     out: &mut Output<W>,
 ) -> Result<End, RunFault>
     ensures sent { Prints (λ p. HoldsOfGiven S.gives sources.old sources.new project.now
-        (IsWhoBy with_chains question.now p)) out.old out.new result }
+        (IsWhoBy with_chains most question.now p)) out.old out.new result }
     ensures unread { IfErr result (λ fault. IfSome (unread_of fault)
         (FailsAt S.gives sources.old sources.new project.now question.now)) }
     ensures certificate { IfErr result (λ f. is_of_certificate f ≡ false) }
 {
     match find_graph(alloc, project, sources, question) {
-        Ok(graph) => tell_graph(alloc, project, &graph, with_chains, out),
+        Ok(graph) => tell_graph(alloc, project, &graph, with_chains, most, out),
         Err(cause) => refuse_question(alloc, project, question, cause, out),
     }
 }
@@ -76,18 +86,19 @@ fn tell_graph<W: ByteSink>(
     project: &Project<'_>,
     graph: &Graph,
     with_chains: bool,
+    most: Option<usize>,
     out: &mut Output<W>,
 ) -> Result<End, RunFault>
     requires { graph.now.files ≡ length project.now.paths }
-    ensures sent { Prints (IsWhoOf with_chains project.now graph.now) out.old out.new result }
+    ensures sent { Prints (IsWhoOf with_chains most project.now graph.now) out.old out.new result }
     ensures read { IfErr result (λ f. unread_of f ≡ None) }
     ensures certificate { IfErr result (λ f. is_of_certificate f ≡ false) }
 {
     let mut reaching = SourceChains::new(alloc, graph)?;
     let mut chains = ShortestChains::new(alloc, graph)?;
     let notes = notes_of(alloc, project, graph, &reaching)?;
-    send_reaching(out, project, graph, with_chains, &mut reaching);
-    send_ways(out, project, graph, &mut chains);
+    send_reaching(out, project, graph, with_chains, most, &mut reaching);
+    send_ways(out, project, graph, &mut chains, most);
     Ok(noted(EndKind::Answered, notes))
 }
 
@@ -107,23 +118,48 @@ pub(crate) fn notes_of(
     Ok(Notes::none())
 }
 
-/// Sends how many sources are left, and each.
+/// Sends how many sources are left, and at most so many of them.
 fn send_reaching<W: ByteSink>(
     out: &mut Output<W>,
     project: &Project<'_>,
     graph: &Graph,
     with_chains: bool,
+    most: Option<usize>,
     reaching: &mut SourceChains<'_>,
 )
     requires files { graph.now.files ≡ length project.now.paths }
     requires graph { reaching.old.graph ≡ graph.now }
     requires edges { All (λ (r : Reaching). All (λ i. i < length graph.now.edges) r.chain) reaching.old.left }
-    ensures { Sends out.old out.new (count_text (codes "who") (length reaching.old.left)
-        ++ flat_map (reaching_text with_chains project.now graph.now) reaching.old.left) }
+    ensures { Sends out.old out.new (sources_text with_chains most project.now graph.now reaching.old.left) }
 {
-    send_count_line(out, b"who", reaching.count());
-    while reaching.advance() {
+    let total = reaching.count();
+    let shown = shown_count(most, total);
+    send_count_line(out, b"who", total);
+    send_first_sources(out, project, graph, with_chains, shown, reaching);
+    send_more(out, total - shown);
+}
+
+/// Sends so many of them.
+fn send_first_sources<W: ByteSink>(
+    out: &mut Output<W>,
+    project: &Project<'_>,
+    graph: &Graph,
+    with_chains: bool,
+    shown: usize,
+    reaching: &mut SourceChains<'_>,
+)
+    requires files { graph.now.files ≡ length project.now.paths }
+    requires graph { reaching.old.graph ≡ graph.now }
+    requires edges { All (λ (r : Reaching). All (λ i. i < length graph.now.edges) r.chain) reaching.old.left }
+    requires shown { shown ≤ length reaching.old.left }
+    ensures { Sends out.old out.new
+        (flat_map (reaching_text with_chains project.now graph.now) (take shown reaching.old.left)) }
+{
+    let mut place = 0;
+    while place < shown {
+        reaching.advance();
         send_source(out, project, graph, with_chains, reaching);
+        place += 1;
     }
 }
 

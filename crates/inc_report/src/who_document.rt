@@ -1,11 +1,12 @@
 //! The document in which `who` tells which sources reach a header.
-ghost use Rattle.std.specs.Prelude.{◌≡◌, ◌<◌, ◌==◌, ◌++◌, ◌∷◌, [], codes, flat_map, if◌then◌else◌, length, IfOk, OnOk};
+ghost use Rattle.std.specs.Prelude.{◌≡◌, ◌<◌, ◌≤◌, ◌==◌, ◌++◌, ◌∷◌, [], codes, flat_map, if◌then◌else◌, length, take, IfOk, OnOk};
 ghost use Rattle.std.specs.List.{All};
 ghost use Rattle.inc_graph.specs.Cuts.{directives_of};
 ghost use Rattle.inc_graph.specs.Reaching.{Reaching};
 ghost use Rattle.inc_report.specs.Documents as spec;
-ghost use Rattle.inc_report.specs.WhoDocument.{count_words, header_words, in_blocks, lead_words, led, reaching_blocks, some_of, who_document};
+ghost use Rattle.inc_report.specs.WhoDocument.{count_words, header_words, in_blocks, lead_words, led, reaching_blocks, some_of, source_blocks, who_document};
 
+use crate::bounds::shown_count;
 use crate::changes::directives_of;
 use crate::documents::{Document, put_counted, put_path};
 use crate::edges::edge_at;
@@ -23,17 +24,18 @@ pub(crate) fn who_document(
     reaching: &mut SourceChains<'_>,
     chains: &mut ShortestChains<'_>,
     all: bool,
+    most: Option<usize>,
 ) -> Result<Document, AllocError>
     requires graph { reaching.old.graph ≡ graph.now }
     requires edges { All (λ (r : Reaching). All (λ i. i < length graph.now.edges) r.chain) reaching.old.left }
     requires chains { All (λ chain. All (λ i. i < length graph.now.edges) chain) chains.old.left }
     ensures { IfOk result (λ document. document
-        ≡ who_document all project.now graph.now reaching.old.left chains.old.left) }
+        ≡ who_document all most project.now graph.now reaching.old.left chains.old.left) }
 {
     let mut document = Document::new(alloc);
     add_count(&mut document, alloc, project, graph, reaching.count())?;
-    add_sources(&mut document, alloc, project, graph, reaching, all)?;
-    add_ways_in(&mut document, alloc, graph, chains)?;
+    add_sources(&mut document, alloc, project, graph, reaching, all, most)?;
+    add_ways_in(&mut document, alloc, graph, chains, most)?;
     add_unresolved(&mut document, alloc, graph, all)?;
     Ok(document)
 }
@@ -92,7 +94,7 @@ fn include_word(count: usize) -> &'static [u8]
     }
 }
 
-/// Adds each source that is left.
+/// Adds at most so many of the sources that are left.
 fn add_sources(
     document: &mut Document,
     alloc: Global,
@@ -100,14 +102,40 @@ fn add_sources(
     graph: &Graph,
     reaching: &mut SourceChains<'_>,
     all: bool,
+    most: Option<usize>,
 ) -> Result<(), AllocError>
     requires graph { reaching.old.graph ≡ graph.now }
     requires edges { All (λ (r : Reaching). All (λ i. i < length graph.now.edges) r.chain) reaching.old.left }
     ensures { OnOk result (document.new ≡ document.old
-        ++ flat_map (reaching_blocks all project.now graph.now) reaching.old.left) }
+        ++ source_blocks all most project.now graph.now reaching.old.left) }
 {
-    while reaching.advance() {
+    let total = reaching.count();
+    let shown = shown_count(most, total);
+    add_first_sources(document, alloc, project, graph, reaching, all, shown)?;
+    document.add_more(alloc, total - shown)
+}
+
+/// Adds so many of them.
+fn add_first_sources(
+    document: &mut Document,
+    alloc: Global,
+    project: &Project<'_>,
+    graph: &Graph,
+    reaching: &mut SourceChains<'_>,
+    all: bool,
+    shown: usize,
+) -> Result<(), AllocError>
+    requires graph { reaching.old.graph ≡ graph.now }
+    requires edges { All (λ (r : Reaching). All (λ i. i < length graph.now.edges) r.chain) reaching.old.left }
+    requires shown { shown ≤ length reaching.old.left }
+    ensures { OnOk result (document.new ≡ document.old
+        ++ flat_map (reaching_blocks all project.now graph.now) (take shown reaching.old.left)) }
+{
+    let mut place = 0;
+    while place < shown {
+        reaching.advance();
         add_source(document, alloc, project, graph, reaching, all)?;
+        place += 1;
     }
     Ok(())
 }
@@ -209,9 +237,10 @@ fn add_ways_in(
     alloc: Global,
     graph: &Graph,
     chains: &mut ShortestChains<'_>,
+    most: Option<usize>,
 ) -> Result<(), AllocError>
     requires { All (λ chain. All (λ i. i < length graph.now.edges) chain) chains.old.left }
-    ensures { OnOk result (document.new ≡ document.old ++ in_blocks graph.now chains.old.left) }
+    ensures { OnOk result (document.new ≡ document.old ++ in_blocks most graph.now chains.old.left) }
 {
     let edges = lasts_of(alloc, chains, &None)?;
     let directives = directives_of(alloc, graph, &edges)?;
@@ -220,5 +249,6 @@ fn add_ways_in(
         b" way in, by its last directive:",
         b" ways in, by their last directive:",
         &directives,
+        most,
     )
 }

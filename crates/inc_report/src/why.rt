@@ -1,5 +1,5 @@
 //! How headers reach sources.
-ghost use Rattle.std.specs.Prelude.{◌≡◌, ◌<◌, Some, None, false, length, map, codes, IfSome, IfErr};
+ghost use Rattle.std.specs.Prelude.{◌≡◌, ◌<◌, ◌≤◌, Some, None, false, flat_map, length, map, take, codes, IfSome, IfErr};
 ghost use Rattle.std.specs.List.{All};
 ghost use Rattle.inc_lookup.specs.Given.{HoldsOfGiven};
 ghost use Rattle.inc_graph.specs.MissingLists as graphs;
@@ -12,8 +12,9 @@ ghost use Rattle.inc_report.specs.WhyText.{unresolved_text, ways_text, why_text,
 ghost use Rattle.inc_report.specs.Writing.{Prints, Writes, is_of_certificate, unread_of};
 
 use crate::asked::Question;
+use crate::bounds::shown_count;
 use crate::edges::{send_blockers, send_list};
-use crate::lines::{send_count_line, send_directive, send_line};
+use crate::lines::{send_count_line, send_directive, send_line, send_more};
 use crate::missing_notes::unreached_notes;
 use crate::outcome::{End, EndKind, RunFault, noted, plain};
 use crate::output::Output;
@@ -24,18 +25,19 @@ use inc_text::ByteSink;
 use std::alloc::Global;
 
 /// Writes how headers reach sources: a shortest chain of include directives from a source to a header, for each directive that names a
-/// header a shortest chain that it ends, the directives whose header is not found, and those of which nothing can be said. Files are
-/// read when they are reached, each once, the headers never. All memory is taken before the first byte is written.
+/// header a shortest chain that it ends, of which at most `most` are written, the directives whose header is not found, and those of which
+/// nothing can be said. Files are read when they are reached, each once, the headers never. All memory is taken before the first byte is written.
 pub fn run_why<S: Sources, W: ByteSink>(
     alloc: Global,
     project: &Project<'_>,
     sources: &mut S,
     question: &Question<'_>,
+    most: Option<usize>,
     w: W,
 ) -> (Result<End, RunFault>, W)
     requires { W.has_failed w ≡ false }
     ensures written { Writes (λ p. HoldsOfGiven S.gives sources.old sources.new project.now
-        (IsWhyBy question.now p))
+        (IsWhyBy most question.now p))
         (W.written w) (W.written result.1) (W.has_failed result.1) result.0 }
     ensures unread { IfErr result.0 (λ fault. IfSome (unread_of fault)
         (FailsAt S.gives sources.old sources.new project.now question.now)) }
@@ -45,7 +47,7 @@ pub fn run_why<S: Sources, W: ByteSink>(
         Ok(out) => out,
         Err(w) => return (Err(RunFault::NoMemory), w),
     };
-    let ended = explain(alloc, project, sources, question, &mut out);
+    let ended = explain(alloc, project, sources, question, most, &mut out);
     out.finish(ended)
 }
 
@@ -55,16 +57,17 @@ fn explain<S: Sources, W: ByteSink>(
     project: &Project<'_>,
     sources: &mut S,
     question: &Question<'_>,
+    most: Option<usize>,
     out: &mut Output<W>,
 ) -> Result<End, RunFault>
     ensures sent { Prints (λ p. HoldsOfGiven S.gives sources.old sources.new project.now
-        (IsWhyBy question.now p)) out.old out.new result }
+        (IsWhyBy most question.now p)) out.old out.new result }
     ensures unread { IfErr result (λ fault. IfSome (unread_of fault)
         (FailsAt S.gives sources.old sources.new project.now question.now)) }
     ensures certificate { IfErr result (λ f. is_of_certificate f ≡ false) }
 {
     match find_graph(alloc, project, sources, question) {
-        Ok(graph) => explain_graph(alloc, project, &graph, out),
+        Ok(graph) => explain_graph(alloc, project, &graph, most, out),
         Err(cause) => refuse_question(alloc, project, question, cause, out),
     }
 }
@@ -74,20 +77,21 @@ fn explain_graph<W: ByteSink>(
     alloc: Global,
     project: &Project<'_>,
     graph: &Graph,
+    most: Option<usize>,
     out: &mut Output<W>,
 ) -> Result<End, RunFault>
     requires { graph.now.files ≡ length project.now.paths }
-    ensures sent { Prints (IsWhyOf project.now graph.now) out.old out.new result }
+    ensures sent { Prints (IsWhyOf most project.now graph.now) out.old out.new result }
     ensures read { IfErr result (λ f. unread_of f ≡ None) }
     ensures certificate { IfErr result (λ f. is_of_certificate f ≡ false) }
 {
     let mut chains = ShortestChains::new(alloc, graph)?;
     if chains.find_shortest() {
-        send_reached(out, project, graph, &mut chains);
+        send_reached(out, project, graph, &mut chains, most);
         return Ok(plain(EndKind::Answered));
     }
     let notes = unreached_notes(alloc, project, graph)?;
-    send_unreached(out, project, graph, &mut chains);
+    send_unreached(out, project, graph, &mut chains, most);
     Ok(noted(EndKind::Answered, notes))
 }
 
@@ -97,14 +101,15 @@ fn send_reached<W: ByteSink>(
     project: &Project<'_>,
     graph: &Graph,
     chains: &mut ShortestChains<'_>,
+    most: Option<usize>,
 )
     requires files { graph.now.files ≡ length project.now.paths }
     requires shortest { IsShortest graph.now chains.old.chain }
     requires chains { AreChainsByLast graph.now 0 chains.old.left }
-    ensures { Sends out.old out.new (why_text project.now graph.now (Some chains.old.chain) chains.old.left) }
+    ensures { Sends out.old out.new (why_text most project.now graph.now (Some chains.old.chain) chains.old.left) }
 {
     send_list(out, b"shortest", project, graph, chains.edges());
-    send_ways(out, project, graph, chains);
+    send_ways(out, project, graph, chains, most);
 }
 
 /// Sends the text of a graph without a chain.
@@ -113,27 +118,29 @@ fn send_unreached<W: ByteSink>(
     project: &Project<'_>,
     graph: &Graph,
     chains: &mut ShortestChains<'_>,
+    most: Option<usize>,
 )
     requires files { graph.now.files ≡ length project.now.paths }
     requires chains { AreChainsByLast graph.now 0 chains.old.left }
-    ensures { Sends out.old out.new (why_text project.now graph.now None chains.old.left) }
+    ensures { Sends out.old out.new (why_text most project.now graph.now None chains.old.left) }
 {
     send_line(out, b"shortest none");
-    send_ways(out, project, graph, chains);
+    send_ways(out, project, graph, chains, most);
 }
 
-/// Sends the chains that are left, the directives whose header is not found, and those of which nothing can be said.
+/// Sends at most so many of the chains that are left, the directives whose header is not found, and those of which nothing can be said.
 pub(crate) fn send_ways<W: ByteSink>(
     out: &mut Output<W>,
     project: &Project<'_>,
     graph: &Graph,
     chains: &mut ShortestChains<'_>,
+    most: Option<usize>,
 )
     requires files { graph.now.files ≡ length project.now.paths }
     requires chains { AreChainsByLast graph.now 0 chains.old.left }
-    ensures { Sends out.old out.new (ways_text project.now graph.now chains.old.left) }
+    ensures { Sends out.old out.new (ways_text most project.now graph.now chains.old.left) }
 {
-    send_chains(out, project, graph, chains);
+    send_chains(out, project, graph, chains, most);
     send_unresolved(out, project, graph);
 }
 
@@ -151,21 +158,45 @@ pub(crate) fn send_unresolved<W: ByteSink>(
     send_blockers(out, project, graph.blockers());
 }
 
-/// Sends how many chains are left, and each.
+/// Sends how many chains are left, and at most so many of them.
 fn send_chains<W: ByteSink>(
     out: &mut Output<W>,
     project: &Project<'_>,
     graph: &Graph,
     chains: &mut ShortestChains<'_>,
+    most: Option<usize>,
 )
     requires files { graph.now.files ≡ length project.now.paths }
     requires edges { All (λ chain. All (λ i. i < length graph.now.edges) chain) chains.old.left }
     ensures { Sends out.old out.new
-        (chains_text (map (marks_of project.now graph.now) chains.old.left)) }
+        (chains_text most (map (marks_of project.now graph.now) chains.old.left)) }
 {
-    send_count_line(out, b"chains", chains.count());
-    while chains.advance() {
+    let total = chains.count();
+    let shown = shown_count(most, total);
+    send_count_line(out, b"chains", total);
+    send_first_chains(out, project, graph, chains, shown);
+    send_more(out, total - shown);
+}
+
+/// Sends so many of the chains that are left.
+fn send_first_chains<W: ByteSink>(
+    out: &mut Output<W>,
+    project: &Project<'_>,
+    graph: &Graph,
+    chains: &mut ShortestChains<'_>,
+    shown: usize,
+)
+    requires files { graph.now.files ≡ length project.now.paths }
+    requires edges { All (λ chain. All (λ i. i < length graph.now.edges) chain) chains.old.left }
+    requires shown { shown ≤ length chains.old.left }
+    ensures { Sends out.old out.new (flat_map (λ chain. list_text (codes "chain") (marks_of project.now graph.now chain))
+        (take shown chains.old.left)) }
+{
+    let mut place = 0;
+    while place < shown {
+        chains.advance();
         send_list(out, b"chain", project, graph, chains.edges());
+        place += 1;
     }
 }
 

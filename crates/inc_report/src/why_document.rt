@@ -1,9 +1,10 @@
 //! The document in which `why` tells how a header reaches a source.
-ghost use Rattle.std.specs.Prelude.{◌≡◌, ◌<◌, ◌++◌, ◌∷◌, [], Some, true, find, length, IfOk, IfSome, OnOk};
+ghost use Rattle.std.specs.Prelude.{◌≡◌, ◌<◌, ◌≤◌, ◌++◌, ◌∷◌, [], Some, find, flat_map, length, take, IfOk, IfSome, OnOk};
 ghost use Rattle.std.specs.List.{All};
 ghost use Rattle.inc_graph.specs.Members.{is_member};
-ghost use Rattle.inc_report.specs.WhyDocument.{blocker_blocks, blocker_if, blocker_ids, by_words, edge_from, edge_to, ends_words, headers_words, is_kind, is_same, itself_words, last_of, missing_blocks, none_of, other_blocks, other_last, other_lasts, reached_document, shortest_blocks, unreached_document, unreached_from, unreached_of, unreached_words, unresolved_blocks, way_blocks, way_words, whole_way};
+ghost use Rattle.inc_report.specs.WhyDocument.{blocker_blocks, blocker_if, blocker_ids, by_words, edge_from, edge_to, ends_words, headers_words, is_kind, is_same, itself_words, last_of, missing_blocks, none_of, other_blocks, other_last, other_lasts, reached_document, shortest_blocks, unreached_document, unreached_from, unreached_of, unreached_words, unresolved_blocks, way_blocks, way_words, whole_way, whole_ways};
 
+use crate::bounds::shown_count;
 use crate::changes::directives_of;
 use crate::documents::{Document, put_counted, put_path};
 use crate::edges::edge_at;
@@ -19,17 +20,18 @@ pub(crate) fn reached_document(
     graph: &Graph,
     chains: &mut ShortestChains<'_>,
     all: bool,
+    most: Option<usize>,
 ) -> Result<Document, AllocError>
     requires graph { chains.old.graph ≡ graph.now }
     requires shortest { All (λ i. i < length graph.now.edges) chains.old.chain }
     requires chains { All (λ chain. All (λ i. i < length graph.now.edges) chain) chains.old.left }
     ensures { IfOk result (λ document. document
-        ≡ reached_document all project.now graph.now chains.old.chain chains.old.left) }
+        ≡ reached_document all most project.now graph.now chains.old.chain chains.old.left) }
 {
     let mut document = Document::new(alloc);
     add_shortest(&mut document, alloc, project, graph, chains.edges())?;
     let last = last_of(chains.edges());
-    add_others(&mut document, alloc, graph, chains, &last, all)?;
+    add_others(&mut document, alloc, graph, chains, &last, all, most)?;
     add_unresolved(&mut document, alloc, graph, all)?;
     Ok(document)
 }
@@ -269,12 +271,13 @@ fn add_others(
     chains: &mut ShortestChains<'_>,
     last: &Option<EdgeId>,
     all: bool,
+    most: Option<usize>,
 ) -> Result<(), AllocError>
     requires { All (λ chain. All (λ i. i < length graph.now.edges) chain) chains.old.left }
-    ensures { OnOk result (document.new ≡ document.old ++ other_blocks all last.now graph.now chains.old.left) }
+    ensures { OnOk result (document.new ≡ document.old ++ other_blocks all most last.now graph.now chains.old.left) }
 {
     if all {
-        return add_ways(document, alloc, graph, chains, last);
+        return add_ways(document, alloc, graph, chains, last, most);
     }
     let edges = lasts_of(alloc, chains, last)?;
     let directives = directives_of(alloc, graph, &edges)?;
@@ -283,6 +286,7 @@ fn add_others(
         b" other way in, by its last directive (--all shows the chain):",
         b" other ways in, by their last directive (--all shows each chain):",
         &directives,
+        most,
     )
 }
 
@@ -326,19 +330,43 @@ fn other_last(edges: &[EdgeId], last: &Option<EdgeId>) -> Option<EdgeId>
     own
 }
 
-/// Adds each chain that is left, without that which ends with the same edge as the shortest.
+/// Adds at most so many of the chains that are left, without that which ends with the same edge as the shortest.
 fn add_ways(
     document: &mut Document,
     alloc: Global,
     graph: &Graph,
     chains: &mut ShortestChains<'_>,
     last: &Option<EdgeId>,
+    most: Option<usize>,
 ) -> Result<(), AllocError>
     requires { All (λ chain. All (λ i. i < length graph.now.edges) chain) chains.old.left }
-    ensures { OnOk result (document.new ≡ document.old ++ other_blocks true last.now graph.now chains.old.left) }
+    ensures { OnOk result (document.new ≡ document.old ++ whole_ways most last.now graph.now chains.old.left) }
 {
-    while chains.advance() {
+    let total = chains.count();
+    let shown = shown_count(most, total);
+    add_first_ways(document, alloc, graph, chains, last, shown)?;
+    document.add_more(alloc, total - shown)
+}
+
+/// The same of so many of them, and no more.
+fn add_first_ways(
+    document: &mut Document,
+    alloc: Global,
+    graph: &Graph,
+    chains: &mut ShortestChains<'_>,
+    last: &Option<EdgeId>,
+    shown: usize,
+) -> Result<(), AllocError>
+    requires chains { All (λ chain. All (λ i. i < length graph.now.edges) chain) chains.old.left }
+    requires shown { shown ≤ length chains.old.left }
+    ensures { OnOk result (document.new ≡ document.old
+        ++ flat_map (way_blocks last.now graph.now) (take shown chains.old.left)) }
+{
+    let mut place = 0;
+    while place < shown {
+        chains.advance();
         add_way(document, alloc, graph, chains.edges(), last)?;
+        place += 1;
     }
     Ok(())
 }
@@ -420,6 +448,7 @@ fn add_missing(
         b" include names a header that was not found:",
         b" includes name headers that were not found:",
         &directives,
+        None,
     )
 }
 
@@ -439,18 +468,21 @@ fn add_blockers(
         b" include may name any header, since macros make its name:",
         b" includes may name any header, since macros make their names:",
         &computed,
+        None,
     )?;
     document.add_list(
         alloc,
         b" directive may include any header, since it is none of the language:",
         b" directives may include any header, since they are none of the language:",
         &foreign,
+        None,
     )?;
     document.add_list(
         alloc,
         b" include leads to several files, by how its own file is found:",
         b" includes lead to several files, by how their own files are found:",
         &several,
+        None,
     )
 }
 

@@ -88,7 +88,7 @@ fn asked(
         undefined: &[],
     };
     let out = Writing::new(&mut sink);
-    let (outcome, _) = run_why(alloc, &project, &mut sources, &question, out);
+    let (outcome, _) = run_why(alloc, &project, &mut sources, &question, None, out);
     Ok((ending(&outcome), sources.read, sink.taken.len()))
 }
 

@@ -112,6 +112,7 @@ fn answers(alloc: Global, row: &Row) -> Result<[Vec<u8>; 3], Fail> {
         &project,
         &mut held,
         &question,
+        None,
         Writing::new(&mut why),
     );
     let mut cut = Sink::new(alloc, 1_000, 100);

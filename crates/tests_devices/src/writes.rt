@@ -2,7 +2,9 @@
 use crate::projects::files_of;
 use crate::sinks::Sink;
 use inc_lookup::{HeldFiles, Project};
-use inc_report::{End, EndKind, Limits, Question, RunFault, run_blank, run_scan, run_why};
+use inc_report::{
+    End, EndKind, Limits, Question, RunFault, ScanForm, run_blank, run_scan, run_why,
+};
 use inc_text::{Language, Writing};
 use std::alloc::Global;
 use std::process::Abort;
@@ -70,7 +72,7 @@ fn check_scan(rt: &impl Abort, alloc: Global, scan: &Scan) {
     for room in 0..40 {
         let mut sink = Sink::new(alloc, room, 3);
         let out = Writing::new(&mut sink);
-        let (outcome, _) = run_scan(alloc, path, source, Language::C17, out);
+        let (outcome, _) = run_scan(alloc, path, source, Language::C17, ScanForm::Text, out);
         check_sink(rt, &sink, outcome, want);
     }
 }
@@ -87,7 +89,14 @@ fn a_source_that_is_too_long(rt: HostRuntime) -> Result<(), Fail> {
     let source = vec![in rt.alloc(); b' '; 16_777_217]?;
     let mut sink = Sink::new(rt.alloc(), 100, 100);
     let out = Writing::new(&mut sink);
-    let (outcome, _) = run_scan(rt.alloc(), b"-", &source, Language::Extended, out);
+    let (outcome, _) = run_scan(
+        rt.alloc(),
+        b"-",
+        &source,
+        Language::Extended,
+        ScanForm::Text,
+        out,
+    );
     let want = Want {
         text: b"refused 9 too long\n",
         notes: b"",
@@ -109,7 +118,7 @@ fn check_why(rt: &impl Abort, alloc: Global, project: &Project<'_>, files: &mut 
     for room in 0..want.text.len() {
         let mut sink = Sink::new(alloc, room, 7);
         let out = Writing::new(&mut sink);
-        let (outcome, _) = run_why(alloc, project, files, &question, out);
+        let (outcome, _) = run_why(alloc, project, files, &question, None, out);
         check_sink(rt, &sink, outcome, &want);
     }
 }

@@ -6,4 +6,5 @@ use Rattle.inc_args.proofs.commands.with_format.Goals as goal
 pub returns : goal.returns
 returns c =
     let one = c.in_ok-arg.ensures.shape c.option.ensures.local ∙ ap (with_rule (app_of c.args.command)) c.option.ensures.rule in
-    IfOk-weaker c.arg-2.result _ _ (λ r h. h.shape c.flag.ensures.local ∙ ap₂ with_rule one c.flag.ensures.rule) c.arg-2.ensures
+    let two = c.in_ok-arg-2.ensures.shape c.flag.ensures.local ∙ ap₂ with_rule one c.flag.ensures.rule in
+    IfOk-weaker c.arg-3.result _ _ (λ r h. h.shape c.option-2.ensures.local ∙ ap₂ with_rule two c.option-2.ensures.rule) c.arg-3.ensures

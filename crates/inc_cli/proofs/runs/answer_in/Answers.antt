@@ -1,11 +1,13 @@
-use Rattle.std.proofs.Common.{◌≡◌, None, Result, rules, subst, sym}
+use Rattle.std.proofs.Common.{◌≡◌, None, Result, option_map, rules, subst, sym}
 use Rattle.inc_args.specs.Views.{seen_limits, seen_question, seen_request}
 use Rattle.inc_inputs.specs.Reports.{Report}
 use Rattle.inc_cli.specs.Outputs.{Follows}
-use Rattle.inc_cli.specs.Commands.{Command, Graph}
+use Rattle.inc_cli.specs.Commands.{Command}
 use Rattle.inc_cli.specs.Processes.{IsAnswerTo, IsAskedBy, IsPromiseOf}
 use Rattle.inc_cli.specs.Questions.{Content, Opens, Promise}
 use Rattle.inc_cli.specs.Runs.{no_limits}
+use Rattle.inc_cli.specs.Scans.{IsScan}
+use Rattle.inc_report.specs.declared.scan.ScanForm.{ScanForm}
 use Rattle.inc_cli.specs.Views.{output_of, seen_command, seen_end}
 use Rattle.inc_cli.proofs.runs.answer_in.Goals as goal
 
@@ -55,13 +57,25 @@ returns-in-Ok-clause-answered g c not =
     let o : Opens g.row.I.Denot g.row.I-Stream.Denot = record { opens = g.I.Inputs.opens; left = g.I.Stream.ByteSource.left } in
     let language = c.args.setup.now.language in
     let terminal = c.args.setup.now.is_terminal in
+    let out = output_of (g.O.ByteSink.written c.args.out) (g.O.ByteSink.written c.list_directives.result.1) (g.O.ByteSink.has_failed c.list_directives.result.1) in
+    let answer = seen_end c.list_directives.result.0 in
+    let path = option_map (λ p. p.now) c.in-Scan.path in
+    subst (λ r. IsAnswerTo gives g.I.Inputs.puts o language terminal (seen_request r) c.args.inputs out answer) (sym c.in-Scan.is)
+    (subst (λ (f : Result ScanForm Report). Follows (λ form. IsScan gives language form path) f c.args.inputs out answer) c.in-Ok.ensures (c.list_directives.ensures not))
+
+pub returns-in-Ok-formatted-clause-answered : goal.returns-in-Ok-formatted-clause-answered
+returns-in-Ok-formatted-clause-answered g c not =
+    let gives = g.I.Inputs.gives in
+    let o : Opens g.row.I.Denot g.row.I-Stream.Denot = record { opens = g.I.Inputs.opens; left = g.I.Stream.ByteSource.left } in
+    let language = c.args.setup.now.language in
+    let terminal = c.args.setup.now.is_terminal in
     let out = output_of (g.O.ByteSink.written c.args.out) (g.O.ByteSink.written c.ask.result.1) (g.O.ByteSink.has_failed c.ask.result.1) in
     let answer = seen_end c.ask.result.0 in
     let q = seen_question c.in-Why.question in
     let none : seen_limits (record { fixed = None; keep = c.new.result; only = c.new-2.result; costs = None }) ≡ no_limits = search rules in
     subst (λ r. IsAnswerTo gives g.I.Inputs.puts o language terminal (seen_request r) c.args.inputs out answer) (sym c.in-Why.is)
-    (subst (λ (command : Result Command Report). Follows (λ k. IsAskedBy Content gives o language k q no_limits) command c.args.inputs out answer) c.in-Ok.ensures
-    (subst (λ l. IsAskedBy Content gives o language (seen_command c.in-Ok.command) q l c.args.inputs out answer) none (c.ask.ensures Content not)))
+    (subst (λ (command : Result Command Report). Follows (λ k. IsAskedBy Content gives o language k q no_limits) command c.args.inputs out answer) c.in-Ok-formatted.ensures
+    (subst (λ l. IsAskedBy Content gives o language (seen_command c.in-Ok-formatted.command) q l c.args.inputs out answer) none (c.ask.ensures Content not)))
 
 pub returns-in-Ok-who_of-clause-answered : goal.returns-in-Ok-who_of-clause-answered
 returns-in-Ok-who_of-clause-answered g c not =
@@ -77,15 +91,16 @@ returns-in-Ok-who_of-clause-answered g c not =
     (subst (λ (command : Result Command Report). Follows (λ k. IsAskedBy Content gives o language k q no_limits) command c.args.inputs out answer) c.in-Ok-who_of.ensures
     (subst (λ l. IsAskedBy Content gives o language (seen_command c.in-Ok-who_of.command) q l c.args.inputs out answer) none (c.ask-in-Ok-who_of.ensures Content not)))
 
-pub returns-in-Graph-clause-answered : goal.returns-in-Graph-clause-answered
-returns-in-Graph-clause-answered g c not =
+pub returns-in-Ok-formatted-2-clause-answered : goal.returns-in-Ok-formatted-2-clause-answered
+returns-in-Ok-formatted-2-clause-answered g c not =
     let gives = g.I.Inputs.gives in
     let o : Opens g.row.I.Denot g.row.I-Stream.Denot = record { opens = g.I.Inputs.opens; left = g.I.Stream.ByteSource.left } in
     let language = c.args.setup.now.language in
     let terminal = c.args.setup.now.is_terminal in
-    let out = output_of (g.O.ByteSink.written c.args.out) (g.O.ByteSink.written c.ask-in-Graph.result.1) (g.O.ByteSink.has_failed c.ask-in-Graph.result.1) in
-    let answer = seen_end c.ask-in-Graph.result.0 in
+    let out = output_of (g.O.ByteSink.written c.args.out) (g.O.ByteSink.written c.ask-in-Ok-formatted-2.result.1) (g.O.ByteSink.has_failed c.ask-in-Ok-formatted-2.result.1) in
+    let answer = seen_end c.ask-in-Ok-formatted-2.result.0 in
     let q = seen_question c.in-Graph.question in
     let none : seen_limits (record { fixed = None; keep = c.new.result; only = c.new-2.result; costs = None }) ≡ no_limits = search rules in
     subst (λ r. IsAnswerTo gives g.I.Inputs.puts o language terminal (seen_request r) c.args.inputs out answer) (sym c.in-Graph.is)
-    (subst (λ l. IsAskedBy Content gives o language Graph q l c.args.inputs out answer) none (c.ask-in-Graph.ensures Content not))
+    (subst (λ (command : Result Command Report). Follows (λ k. IsAskedBy Content gives o language k q no_limits) command c.args.inputs out answer) c.in-Ok-formatted-2.ensures
+    (subst (λ l. IsAskedBy Content gives o language (seen_command c.in-Ok-formatted-2.command) q l c.args.inputs out answer) none (c.ask-in-Ok-formatted-2.ensures Content not)))

@@ -1,6 +1,6 @@
 use Rattle.std.proofs.Common.{◌≡◌, ◌∙◌, ℕ, List, [], ap, codes, option_map, refl, subst, sym}
 use Rattle.inc_lookup.specs.Views.{seen_answer}
-use Rattle.inc_report.specs.ScanText.{scan}
+use Rattle.inc_report.specs.ScanForms.{scan}
 use Rattle.inc_report.specs.Writing.{Writes}
 use Rattle.inc_cli.specs.Outputs as outputs
 use Rattle.inc_cli.specs.Scans.{IsScanOf, scanned_name, scanned_title}
@@ -23,8 +23,8 @@ returns-in-Ok g c not =
     let title : c.as_bytes-title.result.now ≡ scanned_title path =
     c.as_bytes-title.ensures.value ∙ named_or c.args.path c.unwrap_or-2.result _ (codes "<stdin>") c.unwrap_or-2.ensures refl in
     let writes =
-    subst (λ t. Writes (λ p. p ≡ scan language (scanned_name path) t bytes) before after failed ended) title
-    (subst (λ n. Writes (λ p. p ≡ scan language n c.as_bytes-title.result.now bytes) before after failed ended) name c.run_scan_owned-ended.ensures.written)
+    subst (λ t. Writes (λ p. p ≡ scan c.args.form language (scanned_name path) t bytes) before after failed ended) title
+    (subst (λ n. Writes (λ p. p ≡ scan c.args.form language n c.as_bytes-title.result.now bytes) before after failed ended) name c.run_scan_owned-ended.ensures.written)
     in
-    subst (λ s. IsScanOf language path (seen_answer s) (output_of before after failed) (seen_end c.end_of.result)) (sym c.in-Ok.is)
+    subst (λ s. IsScanOf language c.args.form path (seen_answer s) (output_of before after failed) (seen_end c.end_of.result)) (sym c.in-Ok.is)
     (ended, c.end_of.ensures not ∙ ap (λ (n : List ℕ). outputs.ended n [] [] Other ended) c.new.ensures.items, writes, c.run_scan_owned-ended.ensures.own)

@@ -1,31 +1,11 @@
-use Rattle.std.proofs.Common.{ℕ, ◌+◌, ◌<◌, ◌++◌, ◌∙◌, List, ap, length, subst, sym, arith}
-use Rattle.std.specs.List.{All}
-use Rattle.std.proofs.lemmas.Option.{get_or_from_slice_get}
-use Rattle.inc_graph.specs.Cuts.{Counted}
-use Rattle.inc_report.specs.CutDocument.{chain_blocks}
-use Rattle.inc_report.proofs.ChainBlocks.{next_chain}
-use Rattle.inc_report.proofs.CutLemmas.{chain_at, chain_is}
+use Rattle.std.proofs.Common.{◌≡◌, List, OnOk, length, subst}
+use Rattle.inc_report.specs.CutDocument.{chains_from}
+use Rattle.inc_report.specs.Documents.{Block, more_blocks}
+use Rattle.inc_report.proofs.BoundLemmas.{first_added}
 use Rattle.inc_report.proofs.cut_document.add_chains.Goals as goal
 
-pub add_chain-requires-clause-edges : goal.add_chain-requires-clause-edges
-add_chain-requires-clause-edges c =
-    let chains = c.args.chains.now in
-    let i = c.loop-index.index in
-    let low : i < length chains = omega (arith, c.loop-index-test.true, c.len-index-end.ensures) in
-    let x = chain_at chains i low in
-    let P : Counted → Type 0 = λ k. All (λ (j : ℕ). j < length c.args.graph.now.edges) k.chain in
-    let Q : List ℕ → Type 0 = λ es. All (λ (j : ℕ). j < length c.args.graph.now.edges) es in
-    subst Q (sym (c.edges.ensures x.0 x.1)) (subst P (get_or_from_slice_get chains i x.0 x.0 x.1) (c.requires i x.0 low))
-
-pub loop-index-preserved : goal.loop-index-preserved
-loop-index-preserved c =
-    let graph = c.args.graph.now in
-    let chains = c.args.chains.now in
-    let i = c.loop-index.index in
-    let low : i < length chains = omega (arith, c.loop-index-test.true, c.len-index-end.ensures) in
-    let x = chain_at chains i low in
-    let same = chain_is c.edges.result.now c.count.result x.0 (c.edges.ensures x.0 x.1) (c.count.ensures x.0 x.1) in
-    let added =
-    c.in_ok-add_chain.ensures ∙ ap (λ (k : Counted). c.loop-index.document ++ chain_blocks graph (i + 1) c.len.result k) same
-    ∙ ap (λ (n : ℕ). c.loop-index.document ++ chain_blocks graph (i + 1) n x.0) c.len.ensures in
-    next_chain graph (length chains) chains i x.0 c.loop-index.document c.add_chain.new.document _ low (sym (get_or_from_slice_get chains i x.0 x.0 x.1)) added c.loop-index.invariant
+pub returns : goal.returns
+returns c =
+    subst (λ (answer : List Block). OnOk c.add_more.result (c.add_more.new.self ≡ answer))
+    (first_added (chains_from c.args.graph.now 1 (length c.args.chains.now)) more_blocks c.args.most c.args.chains.now c.len-total.result c.shown_count-shown.result c.args.document.now
+    c.add_first_chains.new.document c.len-total.ensures c.shown_count-shown.ensures.count c.in_ok-add_first_chains.ensures) c.add_more.ensures

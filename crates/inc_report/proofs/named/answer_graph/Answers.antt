@@ -1,5 +1,5 @@
 use Rattle.inc_report.specs.Told.{told_printed}
-use Rattle.inc_report.proofs.NamedLemmas.{who_report, why_report}
+use Rattle.inc_report.proofs.NamedLemmas.{graph_report, who_report, why_report}
 use Rattle.inc_report.proofs.WritingLemmas.{prints_one}
 use Rattle.inc_report.proofs.named.answer_graph.Goals as goal
 
@@ -10,3 +10,7 @@ returns-in_ok-explain-in-Why-clause-sent g c =
 pub returns-in_ok-tell-in-Who-clause-sent : goal.returns-in_ok-tell-in-Who-clause-sent
 returns-in_ok-tell-in-Who-clause-sent g c =
     prints_one _ _ _ _ _ (who_report c.args.form c.args.limits.now c.args.subject c.requires.kept _ c.in-Who.is c.in_ok-tell-in-Who.ensures) c.send-in-Who.ensures
+
+pub returns-in_ok-list-in-Graph-clause-sent : goal.returns-in_ok-list-in-Graph-clause-sent
+returns-in_ok-list-in-Graph-clause-sent g c =
+    prints_one _ _ _ _ _ (graph_report c.args.form c.args.limits.now c.args.subject c.requires.kept _ c.in-Graph.is c.in_ok-list-in-Graph.ensures) c.send-in-Graph.ensures

@@ -1,4 +1,4 @@
-use Rattle.std.proofs.Common.{◌≡◌, ◌≢◌, ◌∙◌, ℕ, List, Some, false, ap}
+use Rattle.std.proofs.Common.{◌≡◌, ◌≢◌, ◌∙◌, ℕ, List, None, Some, false, ap}
 use Rattle.inc_graph.specs.Marks.{Cost, Mark}
 use Rattle.inc_graph.specs.declared.fixing.FixedFault.{FixedFault}
 use Rattle.inc_graph.specs.declared.fixing.FixedFault.TheVariants as fault
@@ -16,7 +16,7 @@ use Rattle.inc_report.proofs.NamedLemmas.{blocked_object, marked_object}
 use Rattle.inc_report.proofs.named.hindrance_report.Goals as goal
 
 form : NamedForm
-form = record { asked = Cut; format = Json; all = false }
+form = record { asked = Cut; format = Json; all = false; most = None }
 
 -- a fault that is refused is not that memory ran out
 refused_memory : (marks : List Mark) (costs : List Cost) (f : FixedFault) (r : Refusal) → Some r ≡ refusal_of_fault marks costs f → Marks f ≢ Marks fault.NoMemory

@@ -1,9 +1,18 @@
-use Rattle.std.proofs.Common.{◌∙◌, ap}
+use Rattle.std.proofs.Common.{◌≡◌, ◌≢◌, ◌∙◌, ◌⊎◌, ap, inl, inr}
 use Rattle.inc_report.specs.CutDocument.{has_costs}
 use Rattle.inc_report.specs.Terms.{Limits}
+use Rattle.inc_report.specs.declared.named.Format.{Format}
+use Rattle.inc_report.specs.declared.named.Format.TheVariants.{Gcc, Json, Dot}
 use Rattle.inc_report.proofs.NamedLemmas.{cut_report, hindered_object, hindered_text}
 use Rattle.inc_report.proofs.WritingLemmas.{prints_all, prints_one}
 use Rattle.inc_report.proofs.named.separate.Goals as goal
+
+-- in these formats a refusal is a text
+as_text : (f : Format) → (f ≡ Gcc) ⊎ (f ≡ Dot) → f ≢ Json
+as_text Gcc is same = cc
+as_text Dot is same = cc
+as_text Json (inl other) same = cc
+as_text Json (inr other) same = cc
 
 pub returns-in_ok-smallest-in-Ok-clause-sent : goal.returns-in_ok-smallest-in-Ok-clause-sent
 returns-in_ok-smallest-in-Ok-clause-sent g c =
@@ -15,7 +24,7 @@ returns-in_ok-smallest-in-Ok-clause-sent g c =
 pub returns-in-Gcc-clause-sent : goal.returns-in-Gcc-clause-sent
 returns-in-Gcc-clause-sent g c =
     prints_all _ _ _ _ c.refuse_hindrance.result
-    (λ p is. hindered_text c.args.form c.args.limits.now c.args.subject c.requires.kept p c.requires.asked c.in-Gcc.is is)
+    (λ p is. hindered_text c.args.form c.args.limits.now c.args.subject c.requires.kept p c.requires.asked (as_text c.args.form.format c.in-Gcc.is) is)
     c.refuse_hindrance.ensures.sent
 
 pub returns-in_ok-hindrance_report-in-Json-clause-sent : goal.returns-in_ok-hindrance_report-in-Json-clause-sent

@@ -1,0 +1,9 @@
+use Rattle.std.proofs.Common.{List, ℕ, ap₂}
+use Rattle.inc_report.specs.Printed.{end_of}
+use Rattle.inc_report.specs.Told.{Edges}
+use Rattle.inc_report.specs.declared.outcome.EndKind.TheVariants.{Answered}
+use Rattle.inc_report.proofs.NamedLemmas.{printed_as}
+use Rattle.inc_report.proofs.named.list.Goals as goal
+
+pub returns : goal.returns
+returns c = (Edges, tt, ap₂ (λ (text notes : List ℕ). printed_as text (end_of notes Answered)) c.in_ok-graph_text.ensures c.none.ensures)
