@@ -1,5 +1,5 @@
 -- A step after another one, by what each comes to.
-use Rattle.std.proofs.Common.{◌≡◌, ◌≢◌, Option, Some, None, option_map, Result, Ok, Err, refl, subst, sym}
+use Rattle.std.proofs.Common.{◌≡◌, ◌≢◌, Result, Ok, Err, refl}
 use Rattle.inc_inputs.specs.Reports.{Report, out_of_memory}
 use Rattle.inc_inputs.specs.Steps.{Comes, Step, comes_to, then}
 use Rattle.inc_inputs.proofs.StepLemmas.{comes_err, comes_on}

@@ -1,6 +1,6 @@
 -- The deepest folder that several are in, and databases.
-use Rattle.std.proofs.Common.{◌≡◌, ◌≢◌, ℕ, zero, suc, ◌+◌, ◌<◌, ◌≤◌, Bool, Option, true, false, List, [], ◌∷◌, ◌++◌, Some, None, Err, drop, length, inl, inr, refl, sym, ap, ◌∙◌, map, slice_get, get_or, arith}
-use Rattle.std.specs.Prelude.{IsUtf8, if◌then◌else◌, is_some, unwrap_or}
+use Rattle.std.proofs.Common.{◌≡◌, ◌≢◌, ℕ, ◌+◌, ◌<◌, Option, List, [], ◌∷◌, ◌++◌, Some, None, Err, drop, length, inl, inr, refl, sym, ap, ◌∙◌, map, slice_get, get_or, arith}
+use Rattle.std.specs.Prelude.{IsUtf8, is_some, unwrap_or}
 use Rattle.std.specs.Str.{is_utf8}
 use Rattle.std.proofs.lemmas.Bool.{cases_Bool, true≢false}
 use Rattle.std.proofs.lemmas.List.{drop_all, drop_more}

@@ -5,7 +5,7 @@ use Rattle.std.proofs.lemmas.Grind.{flat_map-append}
 use Rattle.std.proofs.lemmas.List.{append-nil, append_assoc, drop_more, length-append, take-append-le}
 use Rattle.std.specs.Prelude.{cond, flat_map, nat_lt}
 use Rattle.inc_inputs.specs.BuildNotes.{Kept, none, whole, with_line, with_lines}
-use Rattle.inc_inputs.specs.BuildReports.{more_line, some_lines}
+use Rattle.inc_inputs.specs.BuildReports.{some_lines}
 use Rattle.inc_inputs.specs.Reports.{note_line}
 
 pub with_lines-append : (k : Kept) (xs ys : List (List ℕ)) → with_lines k (xs ++ ys) ≡ with_lines (with_lines k xs) ys

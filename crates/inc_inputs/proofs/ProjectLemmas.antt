@@ -3,8 +3,8 @@ use Rattle.std.proofs.Common.{◌≡◌, ℕ, ◌+◌, ◌<◌, Option, List, []
 use Rattle.std.proofs.lemmas.List.{drop_more}
 use Rattle.inc_build.specs.Builds.{with_name}
 use Rattle.inc_inputs.specs.BuildNotes.{Kept, none, with_lines}
-use Rattle.inc_args.specs.Meaning.{FileWords, Preprocessing, Question}
-use Rattle.inc_inputs.specs.BuildProjects.{Dirs, Found, all_empty, empty_lines, found_files, found_preprocessing, found_question, if_empty, in_place, once, unless_named}
+use Rattle.inc_args.specs.Meaning.{FileWords, Question}
+use Rattle.inc_inputs.specs.BuildProjects.{Dirs, Found, all_empty, empty_lines, found_files, found_question, if_empty, in_place, once, unless_named}
 use Rattle.inc_inputs.proofs.NoteLemmas.{with_lines-append}
 
 module _ {X : Type 0} (f : X → List ℕ) (xs : List X) (at : ℕ) (d : X) (low : at < length xs) where

@@ -1,4 +1,4 @@
-use Rattle.std.proofs.Common.{◌≡◌, Err, ap, refl, subst, ◌∙◌}
+use Rattle.std.proofs.Common.{Err, ap, refl, ◌∙◌}
 use Rattle.serde_json.specs.View.{view}
 use Rattle.inc_inputs.specs.BuildReports.{database_report}
 use Rattle.inc_inputs.specs.Reports.{report_of}

@@ -1,4 +1,4 @@
-use Rattle.std.proofs.Common.{◌≡◌, ◌+◌, ◌∙◌, ap, drop, map}
+use Rattle.std.proofs.Common.{◌+◌, ◌∙◌, ap, drop, map}
 use Rattle.inc_build.specs.Views.{seen_row, seen_rows}
 use Rattle.inc_inputs.specs.BuildPaths.{common_of}
 use Rattle.inc_inputs.specs.BuildProjects.{own_paths, own_rows}

@@ -1,4 +1,4 @@
-use Rattle.std.proofs.Common.{◌≡◌, Ok, Err, [], refl, ap, ◌∙◌}
+use Rattle.std.proofs.Common.{Ok, Err, [], refl, ap, ◌∙◌}
 use Rattle.inc_build.specs.Paths.{path_from}
 use Rattle.inc_inputs.specs.Reports.{report_of}
 use Rattle.inc_inputs.proofs.build_grounds.read_here.Goals as goal

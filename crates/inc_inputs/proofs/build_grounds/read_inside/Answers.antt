@@ -1,4 +1,4 @@
-use Rattle.std.proofs.Common.{◌≡◌, ◌∙◌, Ok, Err, ap, refl, subst}
+use Rattle.std.proofs.Common.{◌∙◌, Ok, Err, ap, refl, subst}
 use Rattle.inc_inputs.specs.BuildProjects.{IsDatabase}
 use Rattle.inc_inputs.specs.Inputs.{WholeAt}
 use Rattle.inc_inputs.specs.Reports.{read_report, report_of}

@@ -6,7 +6,7 @@ use Rattle.inc_inputs.specs.Inputs.{Gives}
 use Rattle.inc_inputs.specs.PpTexts.{Defined, PpTexts, defined_by}
 use Rattle.inc_inputs.specs.Texts.{marks_of}
 use Rattle.inc_inputs.specs.Steps.{Step, comes_to, then}
-use Rattle.inc_inputs.specs.Views.{defined_in, pp_texts_in, seen_defined, seen_marks, seen_text}
+use Rattle.inc_inputs.specs.Views.{defined_in, pp_texts_in, seen_defined, seen_marks}
 use Rattle.inc_text.specs.declared.languages.Language.{Language}
 use Rattle.inc_inputs.proofs.StepLemmas.{comes_err, comes_on, passed}
 use Rattle.inc_inputs.proofs.pp_texts.read_pp_texts_beside.Goals as goal

@@ -1,4 +1,4 @@
-use Rattle.std.proofs.Common.{rules, ◌+◌, ◌++◌, ◌∷◌, [], ◌∙◌, ap, drop, subst, sym, ◌≡◌}
+use Rattle.std.proofs.Common.{rules, ◌+◌, ◌++◌, ◌∷◌, [], ◌∙◌, ap, drop}
 use Rattle.inc_inputs.specs.BuildProjects.{nul_ended}
 use Rattle.inc_inputs.proofs.FrontLemmas.{put_more}
 use Rattle.inc_inputs.proofs.build_files.BuildFiles.put_path.Goals as goal
