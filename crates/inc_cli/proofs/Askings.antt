@@ -1,31 +1,41 @@
 -- What is left to do for a question once something of it is known.
-use Rattle.std.proofs.Common.{◌++◌, ℕ, Ok, List}
+use Rattle.std.proofs.Common.{◌≡◌, ◌++◌, [], ℕ, Ok, List, refl}
 use Rattle.inc_text.specs.declared.languages.Language.{Language}
+use Rattle.inc_lookup.specs.IncludePath.{NamedDir}
 use Rattle.inc_lookup.specs.Projects.{Layout}
 use Rattle.inc_graph.specs.Marks.{Cost, Mark}
 use Rattle.inc_args.specs.Meaning.{Limits, Question}
-use Rattle.inc_inputs.specs.Ends.{EndPaths, asked_ends}
+use Rattle.inc_inputs.specs.BuildProjects.{Added}
+use Rattle.inc_inputs.specs.Ends.{EndPaths}
 use Rattle.inc_inputs.specs.HeaderNames.{header_notes}
+use Rattle.inc_inputs.specs.IncludePath.{include_path}
 use Rattle.inc_inputs.specs.Places.{Places, places_of}
+use Rattle.inc_inputs.specs.ProjectLists.{paths_in}
 use Rattle.inc_inputs.specs.Steps.{Step, comes_to, then}
 use Rattle.inc_inputs.specs.Texts.{Texts}
 use Rattle.inc_cli.specs.Commands.{Command}
-use Rattle.inc_cli.specs.Runs.{Asked, Opened, asked_for, asked_opened, opened_by}
+use Rattle.inc_cli.specs.Runs.{Asked, Built, Opened, asked_built, asked_for, asked_opened, built_by, opened_by}
 
 -- texts that were read
 abbrev pub texts_with : (list : List ℕ) (fixed without : List Mark) (costs : List ℕ) → Texts
 texts_with list fixed without costs = record { list = list; fixed = fixed; without = without; costs = costs }
 
--- once the places are known, once sources and headers are, once the layout is, and once the costs are
-abbrev pub with_places : {S : Type 0} → Language → Command → Question → (notes : List ℕ) → Opened → Layout → EndPaths → Places → Step S Asked
-with_places language command q notes o layout ends places = comes_to (Ok (asked_for language command o layout ends places (notes ++ header_notes layout q)))
+-- what they hold, part by part
+pub opened_made : (q : Question) (t : Texts) (paths : List (List ℕ)) (costs : List Cost) (undefined : List (List ℕ)) (dirs : List NamedDir)
+    → paths ≡ paths_in q.files t.list → undefined ≡ q.undefined → dirs ≡ include_path q.files []
+    → (let o : Opened = record { paths = paths; costs = costs; undefined = undefined; dirs = dirs } in o) ≡ opened_by q t costs
+opened_made q t paths costs undefined dirs a b c = rw (a, b, c) refl
 
-abbrev pub with_ends : {S : Type 0} → Language → Command → Question → Limits → (notes : List ℕ) → (without fixed : List Mark) → Opened → Layout → EndPaths → Step S Asked
-with_ends language command q l notes without fixed o layout ends =
-    then (comes_to (places_of layout q l without fixed)) (with_places language command q notes o layout ends)
+-- once the places are known, once sources and headers are, once the include paths are, and once the costs are
+abbrev pub with_places : {S : Type 0} → Language → Command → Question → Opened → Layout → Built → EndPaths → Places → Step S Asked
+with_places language command q o layout b ends places = comes_to (Ok (asked_for language command o layout b ends places (b.notes ++ header_notes layout q)))
 
-abbrev pub with_layout : {S : Type 0} → Language → Command → Question → Limits → (notes : List ℕ) → (without fixed : List Mark) → Opened → Layout → Step S Asked
-with_layout language command q l notes without fixed o layout = then (comes_to (asked_ends layout q)) (with_ends language command q l notes without fixed o layout)
+abbrev pub with_ends : {S : Type 0} → Language → Command → Question → Limits → (without fixed : List Mark) → Opened → Layout → Built → EndPaths → Step S Asked
+with_ends language command q l without fixed o layout b ends =
+    then (comes_to (places_of layout q l without fixed)) (with_places language command q o layout b ends)
 
-abbrev pub with_costs : {S : Type 0} → Language → Command → Question → Limits → (notes : List ℕ) → Texts → List Cost → Step S Asked
-with_costs language command q l notes t costs = asked_opened language command q l notes t.without t.fixed (opened_by q t costs)
+abbrev pub with_others : {S : Type 0} → Language → Command → Question → Limits → Added → (without fixed : List Mark) → Opened → Layout → (others : List (List (List ℕ))) → Step S Asked
+with_others language command q l a without fixed o layout others = asked_built language command q l without fixed o layout (built_by layout a others)
+
+abbrev pub with_costs : {S : Type 0} → Language → Command → Question → Limits → Added → Texts → List Cost → Step S Asked
+with_costs language command q l a t costs = asked_opened language command q l a t.without t.fixed (opened_by q t costs)

@@ -77,14 +77,14 @@ with_texts list notes f = record {
   sources = f.sources;
   headers = f.headers;
   macros = f.macros;
-  notes = notes;
+  added = record { notes = notes; others = f.added.others; compiled = f.added.compiled };
 }
 
 -- of the project that a build names, with its words in place of those of the command line
 abbrev pub pp_found : {S : Type 0} → Gives S → Language → Preprocessing → Found → Step S PpAsked
 pp_found gives language p f =
     unless_reported (words_fault f)
-    (then (pp_texts_beside gives language f.list (found_preprocessing f p)) (λ texts. pp_asked language (found_preprocessing f p) f.macros f.notes texts))
+    (then (pp_texts_beside gives language f.list (found_preprocessing f p)) (λ texts. pp_asked language (found_preprocessing f p) f.macros f.added.notes texts))
 
 -- the same where no word names a build
 abbrev pub pp_with : {S : Type 0} → Gives S → Language → Preprocessing → Option Found → Step S PpAsked

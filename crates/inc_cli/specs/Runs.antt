@@ -14,7 +14,8 @@ use Rattle.inc_inputs.specs.Reports.{Report, input_twice, no_ends}
 use Rattle.inc_inputs.specs.Steps.{Step, comes_to, judged, then}
 use Rattle.inc_inputs.specs.ProjectLists.{paths_in}
 use Rattle.inc_inputs.specs.Texts.{AreCosts, Texts, are_twice, listed_layout, texts_beside, texts_of, unless, unless_reported}
-use Rattle.inc_inputs.specs.BuildProjects.{Found, found_question, words_fault, words_of_question}
+use Rattle.inc_inputs.specs.BuildProjects.{Added, Found, found_question, none_added, words_fault, words_of_question}
+use Rattle.inc_inputs.specs.BuildPlaces.{include_paths_of, read_with}
 use Rattle.inc_inputs.specs.BuildSteps.{found_if}
 use Rattle.inc_inputs.specs.HeaderNames.{header_notes}
 use Rattle.inc_inputs.specs.UndefinedNames.{names_report}
@@ -45,12 +46,27 @@ pub record Opened : Type 0 where
   -- the include path
   pub dirs : List NamedDir
 
+-- what a build adds to a question, once the project stands: the include paths beside its own, with which of them its files are read as
+-- sources, and notes
+pub record Built : Type 0 where
+  pub others : List (List (List ℕ))
+  pub read_with : List (List ℕ)
+  pub notes : List ℕ
+
 -- what is asked once sources, headers and directives are known
-abbrev pub asked_for : Language → Command → Opened → Layout → EndPaths → Places → (notes : List ℕ) → Asked
-asked_for language command o layout ends places notes = record {
+abbrev pub asked_for : Language → Command → Opened → Layout → Built → EndPaths → Places → (notes : List ℕ) → Asked
+asked_for language command o layout b ends places notes = record {
   paths = o.paths;
   layout = layout;
-  question = record { from = ends.from; to = headers_of command ends.to; without = places.without; language = language; undefined = o.undefined };
+  question = record {
+    from = ends.from;
+    to = headers_of command ends.to;
+    without = places.without;
+    language = language;
+    undefined = o.undefined;
+    others = b.others;
+    read_with = b.read_with;
+  };
   limits = record { fixed = places.fixed; kept = places.kept; costs = o.costs };
   notes = notes;
 }
@@ -59,19 +75,32 @@ asked_for language command o layout ends places notes = record {
 abbrev pub opened_by : Question → Texts → List Cost → Opened
 opened_by q texts costs = record { paths = paths_in q.files texts.list; costs = costs; undefined = q.undefined; dirs = include_path q.files [] }
 
--- once they are opened, with what is noted of a build
-abbrev pub asked_opened : {S : Type 0} → Language → Command → Question → Limits → (notes : List ℕ) → (without fixed : List Mark) → Opened → Step S Asked
-asked_opened language command q l notes without fixed o =
-    then (comes_to (listed_layout o.paths (dir_names o.dirs))) (λ layout.
+-- by what a build adds
+abbrev pub built_by : Layout → Added → (others : List (List (List ℕ))) → Built
+built_by layout a others = record { others = others; read_with = read_with layout a.compiled; notes = a.notes }
+
+-- once that is known
+abbrev pub asked_built : {S : Type 0} → Language → Command → Question → Limits → (without fixed : List Mark) → Opened → Layout → Built → Step S Asked
+asked_built language command q l without fixed o layout b =
     then (comes_to (asked_ends layout q)) (λ ends.
     then (comes_to (places_of layout q l without fixed)) (λ places.
-    comes_to (Ok (asked_for language command o layout ends places (notes ++ header_notes layout q))))))
+    comes_to (Ok (asked_for language command o layout b ends places (b.notes ++ header_notes layout q)))))
+
+-- once the project stands, of whose build this is added
+abbrev pub asked_listed : {S : Type 0} → Language → Command → Question → Limits → Added → (without fixed : List Mark) → Opened → Layout → Step S Asked
+asked_listed language command q l a without fixed o layout =
+    then (comes_to (include_paths_of a.others)) (λ others. asked_built language command q l without fixed o layout (built_by layout a others))
+
+-- once the texts are opened
+abbrev pub asked_opened : {S : Type 0} → Language → Command → Question → Limits → Added → (without fixed : List Mark) → Opened → Step S Asked
+asked_opened language command q l a without fixed o =
+    then (comes_to (listed_layout o.paths (dir_names o.dirs))) (λ layout. asked_listed language command q l a without fixed o layout)
 
 -- by the texts, nothing more being read
-abbrev pub asked_by : {S : Type 0} → Language → Command → Question → Limits → (notes : List ℕ) → Texts → Step S Asked
-asked_by language command q l notes texts =
+abbrev pub asked_by : {S : Type 0} → Language → Command → Question → Limits → Added → Texts → Step S Asked
+asked_by language command q l a texts =
     then (judged (AreCosts (unwrap_or l.costs []) texts.costs)) (λ costs.
-    asked_opened language command q l notes texts.without texts.fixed (opened_by q texts costs))
+    asked_opened language command q l a texts.without texts.fixed (opened_by q texts costs))
 
 -- the words that name what is read for a question, with that of a certificate
 abbrev pub list_names : Command → Question → Limits → List (Option (List ℕ))
@@ -81,11 +110,11 @@ list_names command q l = q.files.list ∷ q.without ∷ l.fixed ∷ l.costs ∷ 
 abbrev pub asked_found : {S : Type 0} → Gives S → Language → Command → Question → Limits → Found → Step S Asked
 asked_found gives language command q l f =
     unless_reported (words_fault f)
-    (then (texts_beside gives f.list (found_question f q) l) (λ texts. asked_by language command (found_question f q) l f.notes texts))
+    (then (texts_beside gives f.list (found_question f q) l) (λ texts. asked_by language command (found_question f q) l f.added texts))
 
 -- the same where no word names a build: the words of the question stand
 abbrev pub asked_with : {S : Type 0} → Gives S → Language → Command → Question → Limits → Option Found → Step S Asked
-asked_with gives language command q l None = then (texts_of gives q l) (λ texts. asked_by language command q l [] texts)
+asked_with gives language command q l None = then (texts_of gives q l) (λ texts. asked_by language command q l none_added texts)
 asked_with gives language command q l (Some f) = asked_found gives language command q l f
 
 -- where the words name sources and headers

@@ -1,5 +1,5 @@
 -- What functions of the program give, as the definitions see it.
-use Rattle.std.specs.Prelude.{ℕ, Bool, List, Option, Result}
+use Rattle.std.specs.Prelude.{ℕ, Bool, List, Option, Result, map}
 use Rattle.inc_lookup.specs.Projects.{Layout}
 use Rattle.inc_report.specs.Terms.{Question, Limits, PpQuestion}
 use Rattle.inc_report.specs.declared.outcome.End.{End}
@@ -10,9 +10,12 @@ use Rattle.inc_cli.specs.Commands as commands
 use Rattle.inc_cli.specs.Outputs.{Answer, Output}
 use Rattle.inc_cli.specs.Preprocessings.{PpAsked}
 use Rattle.inc_cli.specs.Runs.{Asked}
+use Rattle.inc_cli.specs.Runs as runs
 use Rattle.inc_cli.specs.declared.answers.Answer as code
+use Rattle.inc_cli.specs.declared.questions.Built.{Built}
 use Rattle.inc_cli.specs.declared.questions.Command.{Command}
 use Rattle.inc_cli.specs.declared.questions.Command.TheVariants as command
+use Rattle.inc_cli.specs.declared.questions.Opened.{Opened}
 
 abbrev pub answer_in : code.Answer → Answer
 answer_in a = record { end = a.end; notes = a.notes.items }
@@ -34,6 +37,12 @@ seen_command (command.Check name) = commands.Check name.now
 abbrev pub asked_in : (paths : List (List ℕ)) → Layout → Question → Limits → (notes : List ℕ) → Asked
 asked_in paths layout question limits notes =
     record { paths = paths; layout = layout; question = question; limits = limits; notes = notes }
+
+abbrev pub opened_in : Opened → runs.Opened
+opened_in o = record { paths = map (λ p. p.now) o.paths.items; costs = o.costs.items; undefined = map (λ n. n.now) o.undefined.items; dirs = o.dirs.items }
+
+abbrev pub built_in : Built → runs.Built
+built_in b = record { others = b.others.items; read_with = map (λ l. l.items) b.read_with.items; notes = b.notes.items }
 
 abbrev pub output_of : (before after : Option (List ℕ)) → (failed : Bool) → Output
 output_of before after failed = record { before = before; after = after; failed = failed }

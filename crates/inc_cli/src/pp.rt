@@ -104,7 +104,7 @@ fn preprocess_found<I: Inputs, O: ByteSink>(
 {
     let mut found = found;
     let list = replace(&mut found.list, Vec::new(setup.alloc));
-    let notes = replace(&mut found.notes, Vec::new(setup.alloc));
+    let notes = replace(&mut found.added.notes, Vec::new(setup.alloc));
     preprocess_build(setup, args, &found, list, notes, inputs, out)
 }
 

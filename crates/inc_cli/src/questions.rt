@@ -8,14 +8,15 @@ ghost use Rattle.inc_cli.specs.Commands.{bounded, certificate_of, has_headers, h
 ghost use Rattle.inc_cli.specs.Outputs.{ended};
 ghost use Rattle.inc_cli.specs.Questions.{IsAnswered, IsAsked, IsKnown, Known, Prints};
 ghost use Rattle.inc_inputs.specs.Reports.{out_of_memory, report_of};
-ghost use Rattle.inc_cli.specs.Runs.{IsUnplaced, asked_by, asked_found, asked_named, asked_of};
+ghost use Rattle.inc_cli.specs.Runs.{IsUnplaced, asked_built, asked_by, asked_for, asked_found, asked_listed, asked_named, asked_of, built_by};
+ghost use Rattle.inc_inputs.specs.BuildPlaces.{include_paths_of};
 ghost use Rattle.inc_inputs.specs.Places.{places_of};
 ghost use Rattle.inc_inputs.specs.ProjectLists.{paths_in};
 ghost use Rattle.inc_inputs.specs.IncludePath.{include_path};
 ghost use Rattle.inc_inputs.specs.Steps.{next_of};
 ghost use Rattle.inc_inputs.specs.Texts.{AreCosts};
-ghost use Rattle.inc_inputs.specs.Views.{end_paths_in, places_in, project_in, seen_texts};
-ghost use Rattle.inc_cli.specs.Views.{asked_in, output_of, seen_command, seen_end};
+ghost use Rattle.inc_inputs.specs.Views.{added_in, end_paths_in, places_in, project_in, seen_texts};
+ghost use Rattle.inc_cli.specs.Views.{asked_in, built_in, opened_in, output_of, seen_command, seen_end};
 ghost use Rattle.inc_report.specs.Questions.{FailsAt};
 ghost use Rattle.inc_report.specs.Writing.{is_of_certificate};
 
@@ -25,11 +26,12 @@ use crate::runs::Setup;
 use inc_args::{LimitArgs, QuestionArgs};
 use inc_graph::{Cost, Mark};
 use inc_inputs::{
-    BuildProject, EndPaths, Failure, Hindrance, Inputs, ListedFiles, Places, Texts, are_ends,
-    are_twice, asked_ends, asked_places, bytes_of_words, costs_of, find_question, include_path,
-    list_paths, listed_project, names_failure, path_end_in, read_texts, read_texts_beside,
+    Added, BuildProject, EndPaths, Failure, Hindrance, Inputs, ListedFiles, Places, Texts,
+    are_ends, are_twice, asked_ends, asked_places, bytes_of_words, costs_of, find_question,
+    include_path, list_paths, listed_project, names_failure, other_paths, path_end_in, read_texts,
+    read_texts_beside, read_with,
 };
-use inc_lookup::{NamedDir, Project};
+use inc_lookup::{IncludePath, NamedDir, Project};
 use inc_report::{
     End, Limits, NamedForm, Question, RunFault, run_blank, run_check, run_cut, run_graph,
     run_named, run_patch, run_who, run_why,
@@ -188,8 +190,8 @@ fn ask_named<I: Inputs, O: ByteSink>(
         Ok(Some(found)) => ask_found(setup, asking, found, inputs, out),
         Ok(None) => {
             let texts = read_texts(setup.alloc, &mut inputs, asking.question, asking.limits);
-            let notes = Vec::new(setup.alloc);
-            ask_read(setup, asking, texts, notes, inputs, out)
+            let added = Added::none(setup.alloc);
+            ask_read(setup, asking, texts, added, inputs, out)
         }
         Err(failure) => (Err(failure), out),
     }
@@ -213,7 +215,7 @@ fn ask_found<I: Inputs, O: ByteSink>(
     let mut found = found;
     let alloc = setup.alloc;
     let list = replace(&mut found.list, Vec::new(alloc));
-    let notes = replace(&mut found.notes, Vec::new(alloc));
+    let added = replace(&mut found.added, Added::none(alloc));
     let question = match found.question(alloc, asking.question) {
         Ok(question) => question,
         Err(failure) => return (Err(failure), out),
@@ -224,22 +226,22 @@ fn ask_found<I: Inputs, O: ByteSink>(
         limits: asking.limits,
     };
     let texts = read_texts_beside(alloc, &mut inputs, list, &question, asking.limits);
-    ask_read(setup, asking, texts, notes, inputs, out)
+    ask_read(setup, asking, texts, added, inputs, out)
 }
 
-/// The same of texts that were read, or not, beside these notes.
+/// The same of texts that were read, or not, beside what a build adds.
 fn ask_read<I: Inputs, O: ByteSink>(
     setup: &Setup<'_>,
     asking: Asking<'_>,
     texts: Result<Texts, Failure>,
-    notes: Vec<u8>,
+    added: Added,
     inputs: I,
     out: O,
 ) -> (Result<Answer, Failure>, O)
     requires { O.has_failed out ≡ false }
     ensures { (known : Known) → seen_end result.0 ≢ Err out_of_memory →
         IsAsked I.gives (record { opens = I.opens; left = I.Stream.left }) (seen_command asking.entry.command)
-        (next_of (λ t. asked_by setup.now.language (seen_command asking.entry.command) (seen_question asking.entry.question.now) (seen_limits asking.entry.limits.now) notes.items t)
+        (next_of (λ t. asked_by setup.now.language (seen_command asking.entry.command) (seen_question asking.entry.question.now) (seen_limits asking.entry.limits.now) (added_in added) t)
         (seen_texts texts))
         known inputs (output_of (O.written out) (O.written result.1) (O.has_failed result.1)) (seen_end result.0) }
 {
@@ -251,12 +253,18 @@ fn ask_read<I: Inputs, O: ByteSink>(
                 without,
                 costs,
             } = texts;
-            ask_texts(
-                setup, asking, &list, &costs, without, fixed, notes, inputs, out,
-            )
+            let marks = Marks { without, fixed };
+            ask_texts(setup, asking, &list, &costs, marks, added, inputs, out)
         }
         Err(failure) => (Err(failure), out),
     }
+}
+
+/// The directives that the texts of a question mark: those that are taken as removed, and those that may not be removed.
+#[derive(Drop)]
+struct Marks {
+    without: Vec<Mark>,
+    fixed: Vec<Mark>,
 }
 
 /// The same of texts: the list and the costs, and the directives that two others mark.
@@ -265,61 +273,163 @@ fn ask_texts<'t, I: Inputs, O: ByteSink>(
     asking: Asking<'t>,
     list: &'t [u8],
     costs: &'t [u8],
-    without: Vec<Mark>,
-    fixed: Vec<Mark>,
-    notes: Vec<u8>,
+    marks: Marks,
+    added: Added,
     inputs: I,
     out: O,
 ) -> (Result<Answer, Failure>, O)
     requires { O.has_failed out ≡ false }
     ensures { (known : Known) → seen_end result.0 ≢ Err out_of_memory →
         IsAsked I.gives (record { opens = I.opens; left = I.Stream.left }) (seen_command asking.entry.command)
-        (asked_by setup.now.language (seen_command asking.entry.command) (seen_question asking.entry.question.now) (seen_limits asking.entry.limits.now) notes.items
-        (record { list = list.now; fixed = fixed.items; without = without.items; costs = costs.now }))
+        (asked_by setup.now.language (seen_command asking.entry.command) (seen_question asking.entry.question.now) (seen_limits asking.entry.limits.now) (added_in added)
+        (record { list = list.now; fixed = marks.fixed.items; without = marks.without.items; costs = costs.now }))
         known inputs (output_of (O.written out) (O.written result.1) (O.has_failed result.1)) (seen_end result.0) }
 {
-    let alloc = setup.alloc;
+    let opened = match open_texts(setup, asking.question, asking.limits, list, costs) {
+        Ok(opened) => opened,
+        Err(failure) => return (Err(failure), out),
+    };
+    let paths = opened.paths.as_slice();
+    let project = match listed_project(setup.alloc, setup.seed, paths, &opened.dirs) {
+        Ok(project) => project,
+        Err(failure) => return (Err(failure), out),
+    };
+    ask_listed(setup, asking, &opened, &project, marks, added, inputs, out)
+}
+
+/// The same of a project.
+fn ask_listed<'p, I: Inputs, O: ByteSink>(
+    setup: &Setup<'_>,
+    asking: Asking<'p>,
+    opened: &'p Opened<'p>,
+    project: &'p Project<'p>,
+    marks: Marks,
+    added: Added,
+    inputs: I,
+    out: O,
+) -> (Result<Answer, Failure>, O)
+    requires { O.has_failed out ≡ false }
+    ensures { (known : Known) → seen_end result.0 ≢ Err out_of_memory →
+        IsAsked I.gives (record { opens = I.opens; left = I.Stream.left }) (seen_command asking.entry.command)
+        (asked_listed setup.now.language (seen_command asking.entry.command) (seen_question asking.entry.question.now) (seen_limits asking.entry.limits.now) (added_in added)
+        marks.without.items marks.fixed.items (opened_in opened.entry.now) project.entry.now)
+        known inputs (output_of (O.written out) (O.written result.1) (O.has_failed result.1)) (seen_end result.0) }
+{
+    match built_paths(setup, project, added) {
+        Ok(built) => ask_built(setup, asking, opened, project, marks, built, inputs, out),
+        Err(failure) => (Err(failure), out),
+    }
+}
+
+/// What a build adds to a question about a project.
+#[derive(Drop)]
+struct Built {
+    /// The include paths beside the project's own.
+    others: Vec<IncludePath>,
+    /// For each file those with which it is read as a source.
+    read_with: Vec<Vec<usize>>,
+    notes: Vec<u8>,
+}
+
+/// What a build adds to a question once the project stands.
+fn built_paths(setup: &Setup<'_>, project: &Project<'_>, added: Added) -> Result<Built, Failure>
+    ensures others { IfOk result (λ built. include_paths_of (added_in added).others ≡ Ok built.others.items) }
+    ensures built { IfOk result (λ built. built_in built ≡ built_by project.now (added_in added) built.others.items) }
+    ensures fault { IfErr result (λ f. report_of f ≢ out_of_memory → include_paths_of (added_in added).others ≡ Err (report_of f)) }
+{
+    let others = match other_paths(setup.alloc, setup.seed, &added.others) {
+        Ok(others) => others,
+        Err(failure) => return Err(failure),
+    };
+    match read_with(setup.alloc, project, &added.compiled) {
+        Ok(read_with) => Ok(Built {
+            others,
+            read_with,
+            notes: added.notes,
+        }),
+        Err(_) => Err(Failure::NoMemory),
+    }
+}
+
+/// The same of a project with what a build adds.
+fn ask_built<'p, I: Inputs, O: ByteSink>(
+    setup: &Setup<'_>,
+    asking: Asking<'p>,
+    opened: &'p Opened<'p>,
+    project: &'p Project<'p>,
+    marks: Marks,
+    built: Built,
+    inputs: I,
+    out: O,
+) -> (Result<Answer, Failure>, O)
+    requires { O.has_failed out ≡ false }
+    ensures { (known : Known) → seen_end result.0 ≢ Err out_of_memory →
+        IsAsked I.gives (record { opens = I.opens; left = I.Stream.left }) (seen_command asking.entry.command)
+        (asked_built setup.now.language (seen_command asking.entry.command) (seen_question asking.entry.question.now) (seen_limits asking.entry.limits.now)
+        marks.without.items marks.fixed.items (opened_in opened.entry.now) project.entry.now (built_in built))
+        known inputs (output_of (O.written out) (O.written result.1) (O.has_failed result.1)) (seen_end result.0) }
+{
     let Asking {
         command,
         question,
         limits,
     } = asking;
-    let opened = match open_texts(setup, question, limits, list, costs) {
-        Ok(opened) => opened,
-        Err(failure) => return (Err(failure), out),
-    };
-    let paths = opened.paths.as_slice();
-    let project = match listed_project(alloc, setup.seed, paths, &opened.dirs) {
-        Ok(project) => project,
-        Err(failure) => return (Err(failure), out),
-    };
-    let placed = match place_words(alloc, &project, &*question, &*limits, without, fixed) {
+    let Marks { without, fixed } = marks;
+    let placed = match place_words(setup.alloc, project, question, limits, without, fixed) {
         Ok(placed) => placed,
         Err(failure) => return (Err(failure), out),
     };
-    let Placed { ends, places } = placed;
-    let Ok(notes) = joined(notes, &ends.notes) else {
+    ask_placed(
+        setup, command, opened, project, &built, &placed, inputs, out,
+    )
+}
+
+/// Answers a question whose sources, headers and directives are known.
+fn ask_placed<'p, I: Inputs, O: ByteSink>(
+    setup: &Setup<'_>,
+    command: Command<'_>,
+    opened: &'p Opened<'p>,
+    project: &Project<'_>,
+    built: &'p Built,
+    placed: &'p Placed<'p>,
+    inputs: I,
+    out: O,
+) -> (Result<Answer, Failure>, O)
+    requires { O.has_failed out ≡ false }
+    ensures { (known : Known) → seen_end result.0 ≢ Err out_of_memory →
+        let command = seen_command command.entry in
+        IsAnswered I.gives (IsKnown known I.gives (record { opens = I.opens; left = I.Stream.left }) command) command
+        (asked_for setup.now.language command (opened_in opened.entry.now) project.now (built_in built.entry.now) (end_paths_in placed.entry.now.ends) (places_in placed.entry.now.places)
+        (built.entry.now.notes.items ++ placed.entry.now.ends.notes.items))
+        inputs (output_of (O.written out) (O.written result.1) (O.has_failed result.1)) (seen_end result.0) }
+{
+    let Ok(notes) = joined(setup.alloc, &built.notes, &placed.ends.notes) else {
         return (Err(Failure::NoMemory), out);
     };
-    let Places {
-        without,
-        fixed,
-        kept,
-    } = places;
     let asked = Question {
-        from: &ends.from,
-        to: command.headers(&ends.to),
-        without: &without,
+        from: &placed.ends.from,
+        to: command.headers(&placed.ends.to),
+        without: &placed.places.without,
         language: setup.language,
         undefined: &opened.undefined,
+        others: &built.others,
+        read_with: &built.read_with,
     };
     let limits = Limits {
-        fixed: &fixed,
-        kept: &kept,
+        fixed: &placed.places.fixed,
+        kept: &placed.places.kept,
         costs: &opened.costs,
     };
     answer_beside(
-        setup, command, &project, &asked, &limits, paths, notes, inputs, out,
+        setup,
+        command,
+        project,
+        &asked,
+        &limits,
+        &opened.paths,
+        notes,
+        inputs,
+        out,
     )
 }
 
@@ -351,10 +461,10 @@ fn answer_beside<I: Inputs, O: ByteSink>(
 }
 
 /// Notes with more of them behind.
-fn joined(notes: Vec<u8>, more: &[u8]) -> Result<Vec<u8>, AllocError>
-    ensures { IfOk result (λ all. all.items ≡ notes.items ++ more.now) }
+fn joined(alloc: Global, notes: &[u8], more: &[u8]) -> Result<Vec<u8>, AllocError>
+    ensures { IfOk result (λ all. all.items ≡ notes.now ++ more.now) }
 {
-    let mut all = notes;
+    let mut all = Vec::from_slice(alloc, notes)?;
     all.extend_from_slice(more)?;
     Ok(all)
 }

@@ -17,6 +17,7 @@ use Rattle.inc_expand.specs.declared.faults.ExpandFault.{ExpandFault}
 use Rattle.inc_expand.specs.declared.faults.ExpandFault.TheVariants.{OverBudget}
 use Rattle.inc_expand.specs.declared.places.Mode.{Mode}
 use Rattle.inc_expand.specs.declared.places.Mode.TheVariants.{Plain, Condition}
+use Rattle.inc_expand.specs.declared.rules.Rule.{Rule}
 use Rattle.inc_expand.specs.declared.rules.Rule.TheVariants.{ByContexts}
 use Rattle.inc_expand.specs.Elements.{Element, elements_of}
 use Rattle.inc_expand.specs.Expansion.{Argument, Call, Carrier, Case, Content, Expander, IsCall, IsObject, IsPredefined, Item, Meter, Names, Passes, Surroundings, all_levels, asked_count, bound, call_behind, called, case_of, counted, depth_after, expanded_argument, expanded_arguments, expansion, function_case, header_count, hidden_at, intersection, is_asking, is_close, is_expanded_in, is_open, is_painted, item_of, level, levels, macro_case, name_case, no_names, of_source, only, predefined, replaced, replacing, rule_in, rule_of, spaced, spent, substituted, taken, taken_count, text_of, through_close, treated, union}
@@ -24,7 +25,7 @@ use Rattle.inc_expand.specs.Contexts.{Entry, Of, End, Reader, Taken, alone, as_r
 use Rattle.inc_expand.specs.SpelledItems.{HasSpelledBodies, HasLiterals}
 use Rattle.inc_expand.proofs.HiddenNames.{mapped, changed, changed_argument, bound-changed, substituted-changed}
 use Rattle.inc_expand.proofs.NameNumbers.{same-bytes}
-use Rattle.inc_expand.proofs.SpelledParts.{IsSpelled, AreSpelled, AreArguments, AreElements, spelled-append, spelled-drop, IsSpelledCall, spelled-call, spelled-bound, spelled-taken, spelled-substituted, spelled-replacing}
+use Rattle.inc_expand.proofs.SpelledParts.{IsSpelled, AreSpelled, AreArguments, AreElements, spelled-append, spelled-drop, IsSpelledCall, spelled-call, spelled-bound, spelled-taken, spelled-substituted, spelled-replacing, IsSpoken}
 use Rattle.inc_expand.proofs.SpelledExpansions.{IsSpelledCase, Keeps, case-spelled, arguments-keep, levels-keep, source-spelled}
 use Rattle.std.specs.List.{list_all}
 
@@ -516,7 +517,7 @@ substituted-agrees : (r : Reader) (d : Expander) → Agree r d → (meter : Mete
     ≡ bares (substituted ByContexts as' (elements_of m) >>= λ new. replaced d meter (replacing ByContexts c names new) cs)
 substituted-agrees r d h meter c m names as' es cs e same args body spelled =
     ap (λ x. x >>= λ new. put_back r meter m.name (standing_for (bare c) new) es) (substituted-changed own ByContexts own-made (λ t s. refl) (λ t a b. own-made t) as' (elements_of m))
-    ∙ go (substituted ByContexts as' (elements_of m)) (spelled-substituted ByContexts Gnu as' (elements_of m) args body)
+    ∙ go (substituted ByContexts as' (elements_of m)) (spelled-substituted ByContexts Gnu tt as' (elements_of m) args body)
   where
     go : (x : Result (List Carrier) ExpandFault) → IfOk x (AreSpelled Gnu) →
         (mapped (map bare) x >>= λ new. put_back r meter m.name (standing_for (bare c) new) es) ≡ bares (x >>= λ new. replaced d meter (replacing ByContexts c names new) cs)
@@ -647,7 +648,7 @@ unfolding Agree
 levels-agree s b l e zero meter es cs k same = refl
 levels-agree s b l e (suc n) meter es cs k same =
     ap (λ m. level_read s (levels_read s n) (m + meter.units + 1) meter es) (ap length (same-read es cs same) ∙ length-map cs bare)
-    ∙ level-agrees s b l e (levels_read s n) (levels s n) (levels-agree s b l e n) (levels-keep Gnu s b l n) (length cs + meter.units + 1) meter es cs k same
+    ∙ level-agrees s b l e (levels_read s n) (levels s n) (levels-agree s b l e n) (levels-keep Gnu s (subst (λ (r : Rule). IsSpoken r Gnu) (sym e) tt) b l n) (length cs + meter.units + 1) meter es cs k same
 
 ---- the list that is handed in, and the items
 

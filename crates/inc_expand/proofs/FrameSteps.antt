@@ -22,7 +22,7 @@ use Rattle.inc_expand.specs.Frames.{answer, behind_arguments, call_result, call_
 use Rattle.inc_expand.specs.Walks.{behind, replacement, IsStep}
 use Rattle.inc_expand.proofs.CallSteps.{drop-at}
 use Rattle.inc_expand.proofs.ExpansionSteps.{no_step}
-use Rattle.inc_expand.proofs.JoinSteps.{same-carrier, same-carriers, known-wider}
+use Rattle.inc_expand.proofs.JoinSteps.{same-carrier, same-carriers, known-wider, keeps-more}
 use Rattle.inc_expand.proofs.SubstitutionRuns.{same-arguments, known_in-wider}
 use Rattle.inc_expand.proofs.SubstitutionSteps.{argument-some, no_argument}
 use Rattle.inc_expand.proofs.LevelSteps.{known_in-at, known_in-set, stepped}
@@ -45,14 +45,14 @@ behind-then : (front : List Carrier) (r : Given) (f : List Carrier × Meter → 
 behind-then front (Ok x) f = refl
 behind-then front (Err fault) f = refl
 
-behind_arguments-both : (front more : List Argument) (r : Result (List Argument × Meter) ExpandFault) →
+pub behind_arguments-both : (front more : List Argument) (r : Result (List Argument × Meter) ExpandFault) →
     behind_arguments front (behind_arguments more r) ≡ behind_arguments (front ++ more) r
 behind_arguments-both front more (Ok x) = ap (λ as'. Ok (as', x.1)) (sym (append_assoc front more x.0))
 behind_arguments-both front more (Err fault) = refl
 
 ---- tables of sets that have grown
 
-hidden-keeps : (u v : Sets) → Keeps u v → (c : Call) → IsKnownCall (size u) c → hidden_by_call u c ≡ hidden_by_call v c
+pub hidden-keeps : (u v : Sets) → Keeps u v → (c : Call) → IsKnownCall (size u) c → hidden_by_call u c ≡ hidden_by_call v c
 hidden-keeps u v k c known =
     sym (ap₂ (λ (a b : Names). intersection a b) (fun_ext λ n. k.same c.name.set known.name n)
     (fun_ext λ n. k.same c.close.set known.close n))
@@ -226,12 +226,12 @@ begun-at s deeper d t hidden meter args rest = by (expanded_arguments (levels s 
 
 ---- the same of a call of the program
 
-length-arguments : (sets : Sets) (as' : List ArgumentValue) → length (argument_values sets as') ≡ length as'
+pub length-arguments : (sets : Sets) (as' : List ArgumentValue) → length (argument_values sets as') ≡ length as'
 length-arguments sets [] = refl
 length-arguments sets (a ∷ as') = ap suc (length-arguments sets as')
 
 -- an argument that was expanded
-set-argument : (sets : Sets) (as' : List ArgumentValue) (i : ℕ) (d : ArgumentValue) (ts : List Carried) →
+pub set-argument : (sets : Sets) (as' : List ArgumentValue) (i : ℕ) (d : ArgumentValue) (ts : List Carried) →
     i < length as' →
     set (argument_values sets as') i (record (argument_at (argument_values sets as') i) { expanded = carriers sets ts })
     ≡ argument_values sets (set as' i (record (get_or as' i d) { expanded = ts }))
@@ -585,17 +585,23 @@ front-is l token rest e = ap (λ (ts : List Carried). record l { list = ts }) (s
 
 ---- all steps
 
--- what is left to do gives what the list gives
-pub record IsWalking (s : Surroundings) (first now : Work) (all : List Carried) (fs : List Frame)
+-- how many levels there are may be known by another number
+pub at-level : (s : Surroundings) (n m : ℕ) (meter : Meter) (ts : List Carrier) (r : Result (List Carrier × Meter) ExpandFault) → n ≡ m → levels s n meter ts ≡ r → levels s m meter ts ≡ r
+at-level s n m meter ts r same is = ap (λ k. levels s k meter ts) (sym same) ∙ is
+
+-- what is left to do gives what the list gives, at a level
+pub record IsWalking (s : Surroundings) (n : ℕ) (first now : Work) (all : List Carried) (fs : List Frame)
     (l : Level) : Type 0 where
+  pub keeps : Keeps first.sets now.sets
   pub frames : AreFrames (size now.sets) fs
   pub level : IsKnownLevel (size now.sets) l
-  pub same : levels s all_levels first.meter (carriers first.sets all) ≡ answer s now.sets now.meter fs l
+  pub same : levels s n first.meter (carriers first.sets all) ≡ answer s now.sets now.meter fs l
 
-module _ (s : Surroundings) (first : Work) (all : List Carried) where
-  pub walking-begun : (l : Level) → suc l.deeper ≡ all_levels → l.list ≡ all → l.out.items ≡ [] → AreKnown
-      (size first.sets) all → IsWalking s first first all [] l
+module _ (s : Surroundings) (n : ℕ) (first : Work) (all : List Carried) where
+  pub walking-begun : (l : Level) → suc l.deeper ≡ n → l.list ≡ all → l.out.items ≡ [] → AreKnown
+      (size first.sets) all → IsWalking s n first first all [] l
   walking-begun l top list-is out-is known = record {
+    keeps = keeps-itself first.sets;
     frames = tt;
     level = record {
       list = subst (AreKnown (size first.sets)) (sym list-is) known;
@@ -603,19 +609,24 @@ module _ (s : Surroundings) (first : Work) (all : List Carried) where
           (AreKnown (size first.sets)) (sym out-is) tt;
     };
     same =
-        ap₂ (λ (n : ℕ) (ts : List Carried). levels s n first.meter (carriers first.sets ts)) (sym top) (sym list-is)
+        ap₂ (λ (m : ℕ) (ts : List Carried). levels s m first.meter (carriers first.sets ts)) (sym top) (sym list-is)
         ∙ sym (behind-none (levels s (suc l.deeper) first.meter (carriers first.sets l.list)))
         ∙ ap (λ ts. behind (carriers first.sets ts) (levels s (suc l.deeper) first.meter
         (carriers first.sets l.list))) (sym out-is);
   }
 
-  pub walking-turn : (now new : Work) (fs gs : List Frame) (l m : Level) → IsWalking s first now all fs l →
-      IsTurn s now fs l new gs m → IsWalking s first new all gs m
-  walking-turn now new fs gs l m w t = record { frames = t.frames; level = t.level; same = w.same ∙ t.same }
+  pub walking-turn : (now new : Work) (fs gs : List Frame) (l m : Level) → IsWalking s n first now all fs l →
+      IsTurn s now fs l new gs m → IsWalking s n first new all gs m
+  walking-turn now new fs gs l m w t = record {
+    keeps = keeps-more first.sets now.sets new.sets w.keeps t.keeps;
+    frames = t.frames;
+    level = t.level;
+    same = w.same ∙ t.same;
+  }
 
-  pub walking-over : (now : Work) (fs : List Frame) (l : Level) → IsWalking s first now all fs l → fs ≡ [] → l.list
+  pub walking-over : (now : Work) (fs : List Frame) (l : Level) → IsWalking s n first now all fs l → fs ≡ [] → l.list
       ≡ [] →
-      levels s all_levels first.meter (carriers first.sets all) ≡ Ok (carriers now.sets l.out.items, now.meter)
+      levels s n first.meter (carriers first.sets all) ≡ Ok (carriers now.sets l.out.items, now.meter)
   walking-over now fs l w none over =
       w.same ∙ ap (λ gs. unwound s now.sets gs (level_result s now.sets now.meter l)) none
       ∙ level-over s now.sets now.meter l over

@@ -12,7 +12,7 @@ use Rattle.inc_token.specs.Spellings.{class_of}
 use Rattle.inc_expand.specs.declared.faults.ExpandFault.{ExpandFault}
 use Rattle.inc_expand.specs.declared.faults.ExpandFault.TheVariants.{ArgumentCount, BadString}
 use Rattle.inc_expand.specs.declared.rules.Rule.{Rule}
-use Rattle.inc_expand.specs.declared.rules.Rule.TheVariants.{BySets}
+use Rattle.inc_expand.specs.declared.rules.Rule.TheVariants.{ByContexts}
 use Rattle.inc_expand.specs.Elements.{Element, Word, Glue, Silent, StringOf, AsWritten, Expanded, Comma, Optional, Kept, Empty, Made}
 use Rattle.inc_expand.specs.Expansion.{Argument, Carrier, Names, Part, Paste, Piece, all_parts, argument_at, arguments, as_part, bound, chosen, comma_part, depth_after, filled_up, fits, goes_with, has_tokens, hidden_by_paste, in_quotes, inside, is_comma, is_str, joined, left_out, made_kind, made_string, no_names, of_body, onto_first, operand, parts_of, paste_from, pasted, spaced, spelled, spelled_token, split_at_commas, standing, stands, string_of, substituted, tokens_of, unexpanded}
 
@@ -181,7 +181,7 @@ module _ (rule : Rule) (g : Carrier → Names) (made : (t : Carrier) → g (reco
   pasted-changed : (a b : Option Carrier) → pasted rule (option_map f a) (option_map f b) ≡ mapped (option_map f) (pasted rule a b)
   pasted-changed None b = refl
   pasted-changed (Some a) None = refl
-  pasted-changed (Some a) (Some b) = go (made_kind (a.spelling ++ b.spelling))
+  pasted-changed (Some a) (Some b) = go (made_kind rule (a.spelling ++ b.spelling))
     where
       token : Names → Kind → Carrier
       token h kind = record { kind = kind; spelling = a.spelling ++ b.spelling; line = 0; space = a.space; hidden = h }
@@ -240,23 +240,23 @@ module _ (g : Carrier → Names) where
       ap₂ (λ (b : Argument) (bs : List Argument). b ∷ bs)
       (ap₂ (λ (w e : List Carrier). record a { written = w; expanded = e }) (twice a.written) (twice a.expanded)) (twice-argument as')
 
-  same-string : (as' : List Argument) (space : Bool) (es : List Element) → (joined BySets (map (changed_argument g) as') es >>= λ ts. string_of space ts) ≡ (joined BySets as' es >>= λ ts. string_of space ts)
+  same-string : (as' : List Argument) (space : Bool) (es : List Element) → (joined ByContexts (map (changed_argument g) as') es >>= λ ts. string_of space ts) ≡ (joined ByContexts as' es >>= λ ts. string_of space ts)
   same-string as' space es =
-      by (joined BySets (map (changed_argument g) as') es)
+      by (joined ByContexts (map (changed_argument g) as') es)
       ∙ ap (λ r. r >>= λ ts. string_of space ts)
-      (sym (joined-changed BySets nothing (λ t. refl) (λ t s. refl) (λ t a b. refl) (map (changed_argument g) as') es)
-      ∙ ap (λ bs. joined BySets bs es) (twice-argument as')
-      ∙ joined-changed BySets nothing (λ t. refl) (λ t s. refl) (λ t a b. refl) as' es)
-      ∙ sym (by (joined BySets as' es))
+      (sym (joined-changed ByContexts nothing (λ t. refl) (λ t s. refl) (λ t a b. refl) (map (changed_argument g) as') es)
+      ∙ ap (λ bs. joined ByContexts bs es) (twice-argument as')
+      ∙ joined-changed ByContexts nothing (λ t. refl) (λ t s. refl) (λ t a b. refl) as' es)
+      ∙ sym (by (joined ByContexts as' es))
     where
       by : (r : Result (List Carrier) ExpandFault) → (r >>= λ ts. string_of space ts) ≡ (mapped (map none) r >>= λ ts. string_of space ts)
-      by (Ok ts) = sym (string-same BySets nothing (λ t. refl) (λ t s. refl) (λ t a b. refl) space ts)
+      by (Ok ts) = sym (string-same ByContexts nothing (λ t. refl) (λ t s. refl) (λ t a b. refl) space ts)
       by (Err fault) = refl
 
   standing-changed : (as' : List Argument) (hash : Option Bool) (es : List Element) → standing (map (changed_argument g) as') hash es ≡ standing as' hash es
   standing-changed as' None es = refl
   standing-changed as' (Some space) es =
-      by (joined BySets (map (changed_argument g) as') es) ∙ ap (λ r. r >>= λ t. Ok (Made space t.spelling ∷ [])) (same-string as' space es) ∙ sym (by (joined BySets as' es))
+      by (joined ByContexts (map (changed_argument g) as') es) ∙ ap (λ r. r >>= λ t. Ok (Made space t.spelling ∷ [])) (same-string as' space es) ∙ sym (by (joined ByContexts as' es))
     where
       by : (r : Result (List Carrier) ExpandFault) → (r >>= λ ts. string_of space ts >>= λ t. Ok (Made space t.spelling ∷ [])) ≡ ((r >>= λ ts. string_of space ts) >>= λ t. Ok (Made space t.spelling ∷ []))
       by (Ok ts) = refl

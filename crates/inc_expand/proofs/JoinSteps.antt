@@ -67,12 +67,12 @@ settled-known n old new last e h k = subst (AreKnown n) (sym e) (known-append n 
 ---- one `##`
 
 pub pasted-made : (rule : Rule) (s u : Sets) (text : List ℕ) (before : Option Carrier) (p : ℕ × Bool) (b : Carrier) (kind : Kind) (set : ℕ) (new : List ℕ) →
-    IsOpened s text before (Some p) → made_kind (text ++ b.spelling) ≡ Ok kind → new ≡ text ++ b.spelling →
+    IsOpened s text before (Some p) → made_kind rule (text ++ b.spelling) ≡ Ok kind → new ≡ text ++ b.spelling →
     ((n : List ℕ) → holds u set n ≡ hidden_by_paste rule (holds s p.0) b.hidden n) →
     pasted rule before (Some b) ≡ Ok (before_of u new (Made set kind p.1))
 pasted-made rule s u text None p b kind set new o m e h = absurd o
 pasted-made rule s u text (Some a) p b kind set new o m e h =
-    ap (λ t. (made_kind (t ++ b.spelling) >>= token t) >>= some) o.0 ∙ ap (λ r. (r >>= token text) >>= some) m
+    ap (λ t. (made_kind rule (t ++ b.spelling) >>= token t) >>= some) o.0 ∙ ap (λ r. (r >>= token text) >>= some) m
     ∙ ap₂ (λ (sp : Bool) (hid : Names). Ok (Some (record { kind = kind; spelling = text ++ b.spelling; line = 0; space = sp; hidden = hid }))) o.1.0
     (ap (λ x. hidden_by_paste rule x b.hidden) o.1.1 ∙ fun_ext (λ n. sym (h n)))
     ∙ ap (λ t. Ok (Some (record { kind = kind; spelling = t; line = 0; space = p.1; hidden = holds u set }))) (sym e)
@@ -84,10 +84,10 @@ pasted-made rule s u text (Some a) p b kind set new o m e h =
     some t = Ok (Some t)
 
 pub pasted-fault : (rule : Rule) (s : Sets) (text : List ℕ) (before : Option Carrier) (p : ℕ × Bool) (b : Carrier) (fault : ExpandFault) →
-    IsOpened s text before (Some p) → made_kind (text ++ b.spelling) ≡ Err fault → pasted rule before (Some b) ≡ Err fault
+    IsOpened s text before (Some p) → made_kind rule (text ++ b.spelling) ≡ Err fault → pasted rule before (Some b) ≡ Err fault
 pasted-fault rule s text None p b fault o m = absurd o
 pasted-fault rule s text (Some a) p b fault o m =
-    ap (λ t. (made_kind (t ++ b.spelling) >>= token t) >>= some) o.0 ∙ ap (λ r. (r >>= token text) >>= some) m
+    ap (λ t. (made_kind rule (t ++ b.spelling) >>= token t) >>= some) o.0 ∙ ap (λ r. (r >>= token text) >>= some) m
   where
     token : List ℕ → Kind → Result Carrier ExpandFault
     token t k = Ok (record { kind = k; spelling = t ++ b.spelling; line = 0; space = a.space; hidden = hidden_by_paste rule a.hidden b.hidden })

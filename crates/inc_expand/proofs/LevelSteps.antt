@@ -46,12 +46,12 @@ pub behind-both : (front more : List Carrier) (r : Result (List Carrier × Meter
 behind-both front more (Ok x) = ap (λ cs. Ok (cs, x.1)) (sym (append_assoc front more x.0))
 behind-both front more (Err fault) = refl
 
-carriers-take : (s : Sets) (k : ℕ) (ts : List Carried) → carriers s (take k ts) ≡ take k (carriers s ts)
+pub carriers-take : (s : Sets) (k : ℕ) (ts : List Carried) → carriers s (take k ts) ≡ take k (carriers s ts)
 carriers-take s zero ts = refl
 carriers-take s (suc k) [] = refl
 carriers-take s (suc k) (t ∷ ts) = ap (λ cs. carrier s t ∷ cs) (carriers-take s k ts)
 
-carriers-drop : (s : Sets) (k : ℕ) (ts : List Carried) → carriers s (drop k ts) ≡ drop k (carriers s ts)
+pub carriers-drop : (s : Sets) (k : ℕ) (ts : List Carried) → carriers s (drop k ts) ≡ drop k (carriers s ts)
 carriers-drop s zero ts = refl
 carriers-drop s (suc k) [] = refl
 carriers-drop s (suc k) (t ∷ ts) = carriers-drop s k ts

@@ -29,6 +29,8 @@ pub mod LowNames
 pub mod SpelledNumbers
 pub mod SpelledParts
 pub mod SpelledExpansions
+pub mod OpenSteps
+pub mod HeldSteps
 pub mod StreamSteps
 pub mod OrdinarySteps
 pub mod SeenSteps

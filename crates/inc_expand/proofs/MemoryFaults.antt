@@ -10,9 +10,10 @@ use Rattle.inc_token.specs.Spellings.{class_of}
 use Rattle.inc_expand.specs.declared.faults.ExpandFault.{ExpandFault}
 use Rattle.inc_expand.specs.declared.faults.ExpandFault.TheVariants.{ArgumentCount, BadString, TokenTooLong, OverBudget, NoMemory}
 use Rattle.inc_expand.specs.declared.rules.Rule.{Rule}
-use Rattle.inc_expand.specs.declared.rules.Rule.TheVariants.{BySets}
+use Rattle.inc_expand.specs.declared.rules.Rule.TheVariants.{ByContexts}
 use Rattle.inc_expand.specs.Elements.{Element, Word, Glue, Silent, StringOf, AsWritten, Expanded, Comma, Optional, Kept, Empty, Made, elements_of}
-use Rattle.inc_expand.specs.Expansion.{Expander, Carrier, Surroundings, Case, Passes, IsPredefined, IsObject, IsCall, Call, Argument, Part, Piece, Paste, Meter, union, only, intersection, no_names, in_quotes, spaced, spelled, longest_made, fits, is_str, string_of, kind_or_bad, made_kind, pasted_token, argument_at, parts_of, all_parts, pasted, paste_from, chosen, goes_with, has_tokens, inside, joined, standing, stands, substituted, replacing, bound, unexpanded, filled_up, arguments, is_expanded_in, expanded_argument, expanded_arguments, replaced, called, treated, level, levels, all_levels, call_behind, case_of, of_source, expansion, counted, spent, text_of, rule_in, taken}
+use Rattle.inc_expand.specs.Expansion.{Expander, Carrier, Surroundings, Case, Passes, IsPredefined, IsObject, IsCall, Call, Argument, Part, Piece, Paste, Meter, union, only, intersection, no_names, in_quotes, spaced, spelled, longest_made, fits, is_str, string_of, kind_or_bad, made_kind, pasted_token, argument_at, parts_of, all_parts, pasted, paste_from, chosen, goes_with, has_tokens, inside, joined, standing, stands, substituted, replacing, bound, unexpanded, filled_up, arguments, is_expanded_in, expanded_argument, expanded_arguments, replaced, called, treated, level, levels, all_levels, call_behind, case_of, of_source, expansion, counted, spent, spoken, text_of, rule_in, taken}
+use Rattle.inc_expand.specs.Openings.{Held, Opener, all_given, as_it_is, carried_on, goes_on, is_open_call, levels_above, opened, opened_by, opening, waits}
 use Rattle.inc_text.specs.declared.languages.Language.TheVariants.{C17}
 
 abbrev Has : {A : Type 0} → Result A ExpandFault → Type 0
@@ -42,8 +43,8 @@ kind_has (Some kind) = tt
 
 pasted_token_has : (rule : Rule) (a b : Carrier) → Has (pasted_token rule a b)
 pasted_token_has rule a b =
-    then_has (made_kind (a.spelling ++ b.spelling)) _
-    (then_has (fits (a.spelling ++ b.spelling)) _ (fits_has (a.spelling ++ b.spelling)) (λ t. kind_has (class_of C17 t)))
+    then_has (made_kind rule (a.spelling ++ b.spelling)) _
+    (then_has (fits (a.spelling ++ b.spelling)) _ (fits_has (a.spelling ++ b.spelling)) (λ t. kind_has (class_of (spoken rule) t)))
     (λ kind. tt)
 
 parts_have : (args : List Argument) (e : Element) → Has (parts_of args e)
@@ -79,7 +80,7 @@ joined_has rule args es = then_has (all_parts args es) _ (all_have args es) (λ 
 
 standing_has : (args : List Argument) (hash : Option Bool) (es : List Element) → Has (standing args hash es)
 standing_has args None es = tt
-standing_has args (Some space) es = then_has (joined BySets args es) _ (joined_has BySets args es) (λ ts. then_has (string_of space ts) _ (string_has space ts) (λ t. tt))
+standing_has args (Some space) es = then_has (joined ByContexts args es) _ (joined_has ByContexts args es) (λ ts. then_has (string_of space ts) _ (string_has space ts) (λ t. tt))
 
 stands_has : (args : List Argument) (e : Element) (es : List Element) → Has (stands args e es)
 stands_has args (Word b) es = tt
@@ -169,3 +170,40 @@ levels_have s (suc n) meter ts = level_has s (levels s n) (levels_have s n) (len
 pub expansion_has : (s : Surroundings) (meter : Meter) (tokens : List Tok) → Has (expansion s meter tokens)
 unfolding Gives
 expansion_has s meter tokens = then_has (levels s all_levels meter (map of_source tokens)) _ (levels_have s all_levels meter (map of_source tokens)) (λ r. tt)
+
+---- lists that go on in later lines
+
+unfoldable Opens : Opener → Type 0
+Opens again = (meter : Meter) (ts : List Carrier) → Has (again meter ts)
+
+as_it_is_gives : Gives as_it_is
+unfolding Gives
+as_it_is_gives meter ts = tt
+
+goes_on_has : (again : Opener) (r : Result (List Carrier × Meter) ExpandFault) → Opens again → Has r → Has (goes_on again r)
+unfolding Opens
+goes_on_has again r h k = then_has r _ k (λ x. h x.1 x.0)
+
+opened_by_has : (rule : Rule) (d : Expander) (again : Opener) (t : Carrier) (meter : Meter) (rest : List Carrier) (c : Case) → Gives d → Opens again → Has (opened_by rule d again t meter rest c)
+unfolding Opens
+opened_by_has rule d again t meter ts (Passes front rest) h k = then_has (again meter rest) _ (k meter rest) (λ o. tt)
+opened_by_has rule d again t meter ts (IsPredefined kind content) h k =
+    goes_on_has again (treated rule d as_it_is t meter ts (IsPredefined kind content)) k (treated_has rule d as_it_is t meter ts (IsPredefined kind content) h as_it_is_gives)
+opened_by_has rule d again t meter ts (IsObject m) h k =
+    goes_on_has again (treated rule d as_it_is t meter ts (IsObject m)) k (treated_has rule d as_it_is t meter ts (IsObject m) h as_it_is_gives)
+opened_by_has rule d again t meter ts (IsCall m p behind) h k =
+    if_has (is_open_call (IsCall m p behind)) (Ok (waits meter (t ∷ ts))) (goes_on again (treated rule d as_it_is t meter ts (IsCall m p behind))) tt
+    (goes_on_has again (treated rule d as_it_is t meter ts (IsCall m p behind)) k (treated_has rule d as_it_is t meter ts (IsCall m p behind) h as_it_is_gives))
+
+opened_has : (s : Surroundings) (d : Expander) → Gives d → (steps : ℕ) → Opens (opened s d steps)
+unfolding Opens
+opened_has s d h zero meter ts = λ e. cc
+opened_has s d h (suc steps) meter [] = tt
+opened_has s d h (suc steps) meter (t ∷ ts) = opened_by_has (rule_in s) d (opened s d steps) t meter ts (case_of s t ts) h (opened_has s d h steps)
+
+pub opening_has : (s : Surroundings) (meter : Meter) (waiting : List Held) (tokens : List Tok) → Has (opening s meter waiting tokens)
+unfolding Opens
+opening_has s meter waiting tokens =
+    let all : List Carrier = carried_on waiting tokens in
+    let n : ℕ = length all + meter.units + 1 in
+    then_has (opened s (levels s levels_above) n meter all) _ (opened_has s (levels s levels_above) (levels_have s levels_above) n meter all) (λ o. tt)

@@ -1,5 +1,5 @@
 -- Expansion keeps the bytes of tokens in their classes.
-use Rattle.std.proofs.Common.{◌≡◌, ℕ, zero, suc, ◌+◌, ◌&&◌, ◌||◌, not, Bool, true, false, cond, List, [], ◌∷◌, ◌++◌, Option, Some, None, Result, Ok, Err, IfOk, length, map, take, drop, refl, nat_lt}
+use Rattle.std.proofs.Common.{◌≡◌, ℕ, zero, suc, ◌+◌, ◌&&◌, ◌||◌, not, Bool, true, false, cond, List, [], ◌∷◌, ◌++◌, Option, Some, None, Result, Ok, Err, IfOk, length, map, take, drop, refl, sym, subst, nat_lt}
 use Rattle.std.specs.Prelude.{if◌then◌else◌, bytes_eq, find, IfSome}
 use Rattle.std.specs.List.{list_all}
 use Rattle.std.proofs.lemmas.Bool.{cond_both}
@@ -13,10 +13,10 @@ use Rattle.inc_expand.specs.declared.faults.ExpandFault.{ExpandFault}
 use Rattle.inc_expand.specs.declared.faults.ExpandFault.TheVariants.{OverBudget}
 use Rattle.inc_expand.specs.declared.rules.Rule.{Rule}
 use Rattle.inc_expand.specs.Elements.{Element, elements_of}
-use Rattle.inc_expand.specs.Expansion.{Expander, Carrier, Item, Surroundings, Case, Passes, IsPredefined, IsObject, IsCall, Call, Argument, Content, Meter, union, only, intersection, replaced, treated, called, level, levels, all_levels, case_of, call_behind, taken_count, function_case, macro_case, name_case, is_asking, is_open, predefined, predefined_token, predefined_tokens, presumed_line, bound, expanded_arguments, expanded_argument, substituted, replacing, is_expanded_in, of_source, item_of, expansion, counted, spent, text_of, rule_in, taken}
+use Rattle.inc_expand.specs.Expansion.{Expander, Carrier, Item, Surroundings, Case, Passes, IsPredefined, IsObject, IsCall, Call, Argument, Content, Meter, union, only, intersection, replaced, treated, called, level, levels, all_levels, case_of, call_behind, taken_count, function_case, macro_case, name_case, is_asking, is_open, predefined, predefined_token, predefined_tokens, presumed_line, bound, expanded_arguments, expanded_argument, substituted, replacing, is_expanded_in, of_source, item_of, expansion, counted, spent, text_of, rule_in, rule_of, taken}
 use Rattle.inc_expand.specs.SpelledItems.{is_spelled_item, HasSpelledBodies, HasLiterals}
 use Rattle.inc_expand.proofs.SpelledNumbers.{decimal-number}
-use Rattle.inc_expand.proofs.SpelledParts.{IsSpelled, AreSpelled, spelled-append, spelled-take, spelled-drop, then_spelled, IsSpelledCall, spelled-call, IsArgument, AreArguments, spelled-bound, AreElements, spelled-elements, spelled-substituted, spelled-replacing, spelled-taken}
+use Rattle.inc_expand.proofs.SpelledParts.{IsSpelled, AreSpelled, spelled-append, spelled-take, spelled-drop, then_spelled, IsSpelledCall, spelled-call, IsArgument, AreArguments, spelled-bound, AreElements, spelled-elements, spelled-substituted, spelled-replacing, spelled-taken, IsSpoken, spoken_own}
 use Rattle.inc_text.specs.declared.languages.Language.{Language}
 
 ---- the case at the front
@@ -169,40 +169,40 @@ replaced-keeps language again h meter new rest k l = go (nat_lt meter.units (1 +
     go true = tt
     go false = h (spent (1 + length new) meter) (new ++ rest) (spelled-append language new rest k l)
 
-called-keeps : (rule : Rule) (language : Language) (d again : Expander) → Keeps language d → Keeps language again → (t : Carrier) (meter : Meter) (m : Definition) (p : Params) (c : Option Call)
+called-keeps : (rule : Rule) (language : Language) → IsSpoken rule language → (d again : Expander) → Keeps language d → Keeps language again → (t : Carrier) (meter : Meter) (m : Definition) (p : Params) (c : Option Call)
     → AreElements language (elements_of m) → IsSpelledCall language c → IfOk (called rule d again t meter m p c) (λ r. AreSpelled language r.0)
-called-keeps rule language d again h k t meter m p None e l = tt
-called-keeps rule language d again h k t meter m p (Some c) e l =
+called-keeps rule language o d again h k t meter m p None e l = tt
+called-keeps rule language o d again h k t meter m p (Some c) e l =
     then_spelled (bound p (taken rule c.close.hidden c.inside)) (AreArguments language) (λ r. AreSpelled language r.0) _ (spelled-bound language p (taken rule c.close.hidden c.inside) (spelled-taken rule language c.close.hidden c.inside l.0)) (λ args are.
     then_spelled (expanded_arguments d (elements_of m) meter 0 args) (λ x. AreArguments language x.0) (λ r. AreSpelled language r.0) _ (arguments-keep language d (elements_of m) meter 0 args h are) (λ x have.
-    then_spelled (substituted rule x.0 (elements_of m)) (AreSpelled language) (λ r. AreSpelled language r.0) _ (spelled-substituted rule language x.0 (elements_of m) have e) (λ new is.
+    then_spelled (substituted rule x.0 (elements_of m)) (AreSpelled language) (λ r. AreSpelled language r.0) _ (spelled-substituted rule language o x.0 (elements_of m) have e) (λ new is.
     let names = union (only m.name) (intersection t.hidden c.close.hidden) in
     replaced-keeps language again k x.1 (replacing rule t names new) c.rest (spelled-replacing rule language t names new is) l.1)))
 
-treated-keeps : (rule : Rule) (language : Language) (d again : Expander) → Keeps language d → Keeps language again → (t : Carrier) (meter : Meter) (ts : List Carrier) (c : Case)
+treated-keeps : (rule : Rule) (language : Language) → IsSpoken rule language → (d again : Expander) → Keeps language d → Keeps language again → (t : Carrier) (meter : Meter) (ts : List Carrier) (c : Case)
     → AreSpelled language ts → IsSpelledCase language c → IfOk (treated rule d again t meter ts c) (λ r. AreSpelled language r.0)
 unfolding Keeps IsSpelledCase
-treated-keeps rule language d again h k t meter ts (Passes front rest) l e =
+treated-keeps rule language o d again h k t meter ts (Passes front rest) l e =
     then_spelled (again meter rest) (λ r. AreSpelled language r.0) (λ r. AreSpelled language r.0) _ (k meter rest e.1) (λ r is. spelled-append language front r.0 e.0 is)
-treated-keeps rule language d again h k t meter ts (IsPredefined kind content) l e =
+treated-keeps rule language o d again h k t meter ts (IsPredefined kind content) l e =
     replaced-keeps language again k (counted content meter) (record t { kind = kind; spelling = text_of meter content; hidden = union (only t.spelling) t.hidden } ∷ []) ts (e meter, tt) l
-treated-keeps rule language d again h k t meter ts (IsObject m) l e =
-    then_spelled (substituted rule [] (elements_of m)) (AreSpelled language) (λ r. AreSpelled language r.0) _ (spelled-substituted rule language [] (elements_of m) tt e)
+treated-keeps rule language o d again h k t meter ts (IsObject m) l e =
+    then_spelled (substituted rule [] (elements_of m)) (AreSpelled language) (λ r. AreSpelled language r.0) _ (spelled-substituted rule language o [] (elements_of m) tt e)
     (λ new is. replaced-keeps language again k meter (replacing rule t (union (only m.name) t.hidden) new) ts (spelled-replacing rule language t (union (only m.name) t.hidden) new is) l)
-treated-keeps rule language d again h k t meter ts (IsCall m p behind) l e =
-    called-keeps rule language d again h k t meter m p (call_behind 0 behind) e.0 (spelled-call language 0 behind e.1)
+treated-keeps rule language o d again h k t meter ts (IsCall m p behind) l e =
+    called-keeps rule language o d again h k t meter m p (call_behind 0 behind) e.0 (spelled-call language 0 behind e.1)
 
-level-keeps : (language : Language) (s : Surroundings) (d : Expander) → HasSpelledBodies language s.table → HasLiterals s.place → Keeps language d → (steps : ℕ) → Keeps language (level s d steps)
+level-keeps : (language : Language) (s : Surroundings) → IsSpoken (rule_in s) language → (d : Expander) → HasSpelledBodies language s.table → HasLiterals s.place → Keeps language d → (steps : ℕ) → Keeps language (level s d steps)
 unfolding Keeps
-level-keeps language s d b l h zero meter ts k = tt
-level-keeps language s d b l h (suc steps) meter [] k = tt
-level-keeps language s d b l h (suc steps) meter (t ∷ ts) k =
-    treated-keeps (rule_in s) language d (level s d steps) h (level-keeps language s d b l h steps) t meter ts (case_of s t ts) k.1 (case-spelled language s t ts b l k.0 k.1)
+level-keeps language s o d b l h zero meter ts k = tt
+level-keeps language s o d b l h (suc steps) meter [] k = tt
+level-keeps language s o d b l h (suc steps) meter (t ∷ ts) k =
+    treated-keeps (rule_in s) language o d (level s d steps) h (level-keeps language s o d b l h steps) t meter ts (case_of s t ts) k.1 (case-spelled language s t ts b l k.0 k.1)
 
-pub levels-keep : (language : Language) (s : Surroundings) → HasSpelledBodies language s.table → HasLiterals s.place → (n : ℕ) → Keeps language (levels s n)
+pub levels-keep : (language : Language) (s : Surroundings) → IsSpoken (rule_in s) language → HasSpelledBodies language s.table → HasLiterals s.place → (n : ℕ) → Keeps language (levels s n)
 unfolding Keeps
-levels-keep language s b l zero meter ts k = tt
-levels-keep language s b l (suc n) meter ts k = level-keeps language s (levels s n) b l (levels-keep language s b l n) (length ts + meter.units + 1) meter ts k
+levels-keep language s o b l zero meter ts k = tt
+levels-keep language s o b l (suc n) meter ts k = level-keeps language s o (levels s n) b l (levels-keep language s o b l n) (length ts + meter.units + 1) meter ts k
 
 ---- the list that is handed in, and the items
 
@@ -222,10 +222,12 @@ items-spelled : (language : Language) (ts : List Carrier) → AreSpelled languag
 items-spelled language [] h = refl
 items-spelled language (t ∷ ts) h = all-more (is_spelled_item language (item_of t)) (list_all (is_spelled_item language) (map item_of ts)) h.0 (items-spelled language ts h.1)
 
-pub expansion-spelled : (language : Language) (s : Surroundings) (meter : Meter) (tokens : List Tok) → HasSpelledBodies language s.table → HasLiterals s.place → list_all (is_spelled language) tokens ≡ true
+pub expansion-spelled : (language : Language) (s : Surroundings) (meter : Meter) (tokens : List Tok) → s.table.language ≡ language → HasSpelledBodies language s.table → HasLiterals s.place → list_all (is_spelled language) tokens ≡ true
     → IfOk (expansion s meter tokens) (λ r. list_all (is_spelled_item language) r.0 ≡ true)
 unfolding Keeps
-expansion-spelled language s meter tokens b l h = by (levels s all_levels meter (map of_source tokens)) (levels-keep language s b l all_levels meter (map of_source tokens) (source-spelled language tokens h))
+expansion-spelled language s meter tokens spoken_is b l h =
+    by (levels s all_levels meter (map of_source tokens))
+    (levels-keep language s (subst (λ (m : Language). IsSpoken (rule_of m) language) (sym spoken_is) (spoken_own language)) b l all_levels meter (map of_source tokens) (source-spelled language tokens h))
   where
     by : (r : Result (List Carrier × Meter) ExpandFault) → IfOk r (λ x. AreSpelled language x.0) →
         IfOk {T = List Item × Meter} (r >>= (λ x. Ok (map item_of x.0, x.1))) (λ x. list_all (is_spelled_item language) x.0 ≡ true)

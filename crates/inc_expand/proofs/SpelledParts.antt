@@ -19,9 +19,9 @@ use Rattle.inc_expand.specs.declared.faults.ExpandFault.TheVariants.{ArgumentCou
 use Rattle.inc_expand.specs.declared.rules.Rule.{Rule}
 use Rattle.inc_expand.specs.declared.rules.Rule.TheVariants.{BySets, ByContexts}
 use Rattle.inc_expand.specs.Elements.{Element, Word, Glue, Silent, StringOf, AsWritten, Expanded, Comma, Optional, Kept, Empty, Made, element, hash_of, elements_from, elements_of}
-use Rattle.inc_expand.specs.Expansion.{Carrier, Call, Argument, Part, Piece, Paste, Names, no_names, call_behind, depth_after, is_close, is_comma, onto_first, split_at_commas, arguments, filled_up, left_out, unexpanded, bound, argument_at, comma_part, as_part, spaced, in_quotes, spelled, longest_made, fits, is_str, string_of, kind_or_bad, made_kind, pasted_token, operand, parts_of, all_parts, tokens_of, pasted, paste_from, chosen, goes_with, has_tokens, inside, joined, kept, own_spelling, standing, stands, substituted, replacing, hidden_at, taken}
+use Rattle.inc_expand.specs.Expansion.{Carrier, Call, Argument, Part, Piece, Paste, Names, no_names, call_behind, depth_after, is_close, is_comma, onto_first, split_at_commas, arguments, filled_up, left_out, unexpanded, bound, argument_at, comma_part, as_part, spaced, in_quotes, spelled, longest_made, fits, is_str, string_of, kind_or_bad, made_kind, pasted_token, operand, parts_of, all_parts, tokens_of, pasted, paste_from, chosen, goes_with, has_tokens, inside, joined, kept, own_spelling, standing, stands, substituted, replacing, rule_of, hidden_at, spoken, taken}
 use Rattle.inc_text.specs.declared.languages.Language.{Language}
-use Rattle.inc_text.specs.declared.languages.Language.TheVariants.{C17}
+use Rattle.inc_text.specs.declared.languages.Language.TheVariants.{C17, Extended, Gnu}
 
 -- the bytes of a token lie in its class
 abbrev pub IsSpelled : Language → Carrier → Type 0
@@ -174,14 +174,30 @@ spelled-made_string language space written =
     then_spelled (fits (in_quotes (spelled (spaced false written)))) (λ t. t ≡ in_quotes (spelled (spaced false written))) (λ t. is_spelling language Str t.spelling ≡ true) _
     (fits-same (in_quotes (spelled (spaced false written)))) (λ text _. made_string-class language space text (class_of C17 text) (class_of-lies C17 text))
 
-class-made : (language : Language) (text : List ℕ) (class : Option Kind) → 2 ≤ length text → LiesIn C17 text class → IfOk (kind_or_bad class) (λ kind. is_spelling language kind text ≡ true)
-class-made language text None some h = tt
-class-made language text (Some kind) some h = spelled_anywhere language kind text some h
+-- what `##` makes by the rule is a token of the language
+abbrev pub IsSpoken : Rule → Language → Type 0
+IsSpoken BySets language = Unit {0}
+IsSpoken ByContexts Gnu = Unit {0}
+IsSpoken ByContexts _ = ⊥
 
-spelled-made : (language : Language) (text : List ℕ) → 2 ≤ length text → IfOk (made_kind text) (λ kind. is_spelling language kind text ≡ true)
-spelled-made language text some =
+pub spoken_own : (language : Language) → IsSpoken (rule_of language) language
+spoken_own C17 = tt
+spoken_own Extended = tt
+spoken_own Gnu = tt
+
+class-made : (rule : Rule) (language : Language) → IsSpoken rule language → (text : List ℕ) (class : Option Kind) → 2 ≤ length text → LiesIn (spoken rule) text class
+    → IfOk (kind_or_bad class) (λ kind. is_spelling language kind text ≡ true)
+class-made rule language o text None some h = tt
+class-made BySets language o text (Some kind) some h = spelled_anywhere language kind text some h
+class-made ByContexts C17 o text (Some kind) some h = absurd o
+class-made ByContexts Extended o text (Some kind) some h = absurd o
+class-made ByContexts Gnu o text (Some kind) some h = h
+
+spelled-made : (rule : Rule) (language : Language) → IsSpoken rule language → (text : List ℕ) → 2 ≤ length text → IfOk (made_kind rule text) (λ kind. is_spelling language kind text ≡ true)
+spelled-made rule language o text some =
+    let l = spoken rule in
     then_spelled (fits text) (λ t. t ≡ text) (λ kind. is_spelling language kind text ≡ true) _ (fits-same text)
-    (λ t same. class-made language text (class_of C17 t) some (subst (λ u. LiesIn C17 u (class_of C17 t)) same (class_of-lies C17 t)))
+    (λ t same. class-made rule language o text (class_of l t) some (subst (λ u. LiesIn l u (class_of l t)) same (class_of-lies l t)))
 
 -- a part of a replacement
 abbrev IsPart : Language → Part → Type 0
@@ -280,27 +296,27 @@ spelled-tokens : (language : Language) (p : Option Carrier) → IsPart language 
 spelled-tokens language None h = tt
 spelled-tokens language (Some t) h = (h, tt)
 
-part-pasted : (rule : Rule) (language : Language) (a b : Option Carrier) → IsPart language (Piece a) → IsPart language (Piece b) → IfOk (pasted rule a b) (λ r. IsPart language (Piece r))
-part-pasted rule language None b h k = k
-part-pasted rule language (Some a) None h k = h
-part-pasted rule language (Some a) (Some b) h k =
+part-pasted : (rule : Rule) (language : Language) → IsSpoken rule language → (a b : Option Carrier) → IsPart language (Piece a) → IsPart language (Piece b) → IfOk (pasted rule a b) (λ r. IsPart language (Piece r))
+part-pasted rule language o None b h k = k
+part-pasted rule language o (Some a) None h k = h
+part-pasted rule language o (Some a) (Some b) h k =
     then_spelled (pasted_token rule a b) (IsSpelled language) (λ r. IsPart language (Piece r)) _
-    (then_spelled (made_kind (a.spelling ++ b.spelling)) (λ kind. is_spelling language kind (a.spelling ++ b.spelling) ≡ true) (IsSpelled language) _ (spelled-made language (a.spelling ++ b.spelling)
+    (then_spelled (made_kind rule (a.spelling ++ b.spelling)) (λ kind. is_spelling language kind (a.spelling ++ b.spelling) ≡ true) (IsSpelled language) _ (spelled-made rule language o (a.spelling ++ b.spelling)
     (omega (arith, length-append a.spelling b.spelling, spelled_some language a.kind a.spelling h, spelled_some language b.kind b.spelling k))) (λ kind is. is))
     (λ t is. is)
 
-spelled-pasted : (rule : Rule) (language : Language) (joins : Bool) (p : Option Carrier) (ps : List Part) → IsPart language (Piece p) → AreParts language ps → IfOk (paste_from rule joins p ps) (AreSpelled language)
-spelled-pasted rule language joins p [] h k = spelled-tokens language p h
-spelled-pasted rule language joins p (Paste ∷ rest) h k = spelled-pasted rule language true p rest h k.1
-spelled-pasted rule language false p (Piece q ∷ rest) h k =
-    let after = spelled-pasted rule language false q rest k.0 k.1 in
+spelled-pasted : (rule : Rule) (language : Language) → IsSpoken rule language → (joins : Bool) (p : Option Carrier) (ps : List Part) → IsPart language (Piece p) → AreParts language ps → IfOk (paste_from rule joins p ps) (AreSpelled language)
+spelled-pasted rule language o joins p [] h k = spelled-tokens language p h
+spelled-pasted rule language o joins p (Paste ∷ rest) h k = spelled-pasted rule language o true p rest h k.1
+spelled-pasted rule language o false p (Piece q ∷ rest) h k =
+    let after = spelled-pasted rule language o false q rest k.0 k.1 in
     then_spelled (paste_from rule false q rest) (AreSpelled language) (AreSpelled language) _ after (λ ts are. spelled-append language (tokens_of p) ts (spelled-tokens language p h) are)
-spelled-pasted rule language true p (Piece q ∷ rest) h k =
-    then_spelled (pasted rule p q) (λ r. IsPart language (Piece r)) (AreSpelled language) _ (part-pasted rule language p q h k.0) (λ r is. spelled-pasted rule language false r rest is k.1)
+spelled-pasted rule language o true p (Piece q ∷ rest) h k =
+    then_spelled (pasted rule p q) (λ r. IsPart language (Piece r)) (AreSpelled language) _ (part-pasted rule language o p q h k.0) (λ r is. spelled-pasted rule language o false r rest is k.1)
 
-spelled-joined : (rule : Rule) (language : Language) (args : List Argument) (es : List Element) → AreArguments language args → AreElements language es → IfOk (joined rule args es) (AreSpelled language)
-spelled-joined rule language args es h k =
-    then_spelled (all_parts args es) (AreParts language) (AreSpelled language) _ (parts-all language args es h k) (λ ps are. spelled-pasted rule language false None ps tt are)
+spelled-joined : (rule : Rule) (language : Language) → IsSpoken rule language → (args : List Argument) (es : List Element) → AreArguments language args → AreElements language es → IfOk (joined rule args es) (AreSpelled language)
+spelled-joined rule language o args es h k =
+    then_spelled (all_parts args es) (AreParts language) (AreSpelled language) _ (parts-all language args es h k) (λ ps are. spelled-pasted rule language o false None ps tt are)
 
 ---- what is in the parentheses after `__VA_OPT__`
 
@@ -333,11 +349,16 @@ elements-append : (language : Language) (ds es : List Element) → AreElements l
 elements-append language [] es h k = k
 elements-append language (d ∷ ds) es h k = (h.0, elements-append language ds es h.1 k)
 
+-- nothing is asked of tokens of which a string is made
+any_joined : (r : Result (List Carrier) ExpandFault) → IfOk r (λ ts. Unit {0})
+any_joined (Ok ts) = tt
+any_joined (Err fault) = tt
+
 elements-standing : (language : Language) (args : List Argument) (hash : Option Bool) (es : List Element) → AreArguments language args → AreElements language es → IfOk (standing args hash es) (AreElements language)
 elements-standing language args None [] h k = (tt, tt)
 elements-standing language args None (e ∷ es) h k = k
 elements-standing language args (Some space) es h k =
-    then_spelled (joined BySets args es) (AreSpelled language) (AreElements language) _ (spelled-joined BySets language args es h k) (λ ts are.
+    then_spelled (joined ByContexts args es) (λ ts. Unit {0}) (AreElements language) _ (any_joined (joined ByContexts args es)) (λ ts any.
     then_spelled (string_of space ts) (λ t. is_spelling language Str t.spelling ≡ true) (AreElements language) _ (spelled-made_string language space ts) (λ t is. (is, tt)))
 
 elements-stands : (language : Language) (args : List Argument) (e : Element) (es : List Element) → AreArguments language args → IsElement language e → AreElements language es → IfOk (stands args e es) (AreElements language)
@@ -365,9 +386,9 @@ elements-chosen language args zero (e ∷ es) h k =
     then_spelled (stands args e es) (AreElements language) (AreElements language) _ (elements-stands language args e es h k.0 k.1) (λ cs are.
     then_spelled (chosen args (goes_with e es) es) (AreElements language) (AreElements language) _ rest (λ more all. elements-append language cs more are all))
 
-pub spelled-substituted : (rule : Rule) (language : Language) (args : List Argument) (es : List Element) → AreArguments language args → AreElements language es → IfOk (substituted rule args es) (AreSpelled language)
-spelled-substituted rule language args es h k =
-    then_spelled (chosen args 0 es) (AreElements language) (AreSpelled language) _ (elements-chosen language args 0 es h k) (λ cs are. spelled-joined rule language args cs h are)
+pub spelled-substituted : (rule : Rule) (language : Language) → IsSpoken rule language → (args : List Argument) (es : List Element) → AreArguments language args → AreElements language es → IfOk (substituted rule args es) (AreSpelled language)
+spelled-substituted rule language o args es h k =
+    then_spelled (chosen args 0 es) (AreElements language) (AreSpelled language) _ (elements-chosen language args 0 es h k) (λ cs are. spelled-joined rule language o args cs h are)
 
 pub spelled-replacing : (rule : Rule) (language : Language) (t : Carrier) (names : Names) (ts : List Carrier) → AreSpelled language ts → AreSpelled language (replacing rule t names ts)
 spelled-replacing rule language t names ts h = spelled-spaced language t.space _ (moved ts h)

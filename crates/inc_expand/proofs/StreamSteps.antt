@@ -230,7 +230,7 @@ handed-level takes s was mid first old between new fs l m none deeper-is out-is 
 module _ {S : Type 0} (takes : S → Bool → Item → S → Type 0) (s : Surroundings) (before : Work) (all : List Carried) (old : S) where
   pub streamed-begun : (l : Level) → suc l.deeper ≡ all_levels → l.list ≡ all → l.out.items ≡ [] → AreKnown (size before.sets) all → IsStreamed takes s before before all [] l old old true
   streamed-begun l top list-is out-is known =
-      let w = walking-begun s before all l top list-is out-is known in
+      let w = walking-begun s all_levels before all l top list-is out-is known in
       record { items = []; handed_on = handed-none takes true old; frames = w.frames; level = w.level; cleared = λ e. out-is; same = ap (handed []) w.same }
 
   module _ (now : Work) (fs : List Frame) (l : Level) (mid : S) (first : Bool) (p : IsStreamed takes s before now all fs l old mid first) where

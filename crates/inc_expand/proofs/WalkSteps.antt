@@ -200,6 +200,7 @@ pub call-replaced : (rule : Rule) (c : CallStruct) (old now new : Work) (both : 
 call-replaced rule c old now new both rest list known rest_known keeps meter members p = record {
   keeps = keeps-more old.sets now.sets new.sets keeps p.keeps;
   known = p.known;
+  spends = let u : now.meter.units ≡ old.meter.units = ap (λ (m : Meter). m.units) meter in omega (arith, p.spends, u);
   smaller = let u : now.meter.units ≡ old.meter.units = ap (λ (m : Meter). m.units) meter in omega (arith, p.smaller, u);
   same = λ again. hidden-called rule c old now both rest known rest_known keeps meter members again ∙ p.same again;
 }

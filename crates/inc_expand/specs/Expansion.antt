@@ -310,18 +310,23 @@ string_of space written =
 abbrev pub made_string : (space : Bool) → List ℕ → Carrier
 made_string space text = record { kind = Str; spelling = text; line = 0; space = space; hidden = no_names }
 
--- the class of a token that `##` makes, in C17: none has a $ but in a literal
+-- the language whose tokens `##` makes: in GNU C they may have a $ outside of literals
+abbrev pub spoken : Rule → Language
+spoken BySets = C17
+spoken ByContexts = Gnu
+
+-- the class of a token that `##` makes
 abbrev pub kind_or_bad : Option Kind → Result Kind ExpandFault
 kind_or_bad None = Err BadPaste
 kind_or_bad (Some kind) = Ok kind
 
-abbrev pub made_kind : List ℕ → Result Kind ExpandFault
-made_kind text = fits text >>= λ t. kind_or_bad (class_of C17 t)
+abbrev pub made_kind : Rule → List ℕ → Result Kind ExpandFault
+made_kind rule text = fits text >>= λ t. kind_or_bad (class_of (spoken rule) t)
 
 -- the token that `##` makes of two
 abbrev pub pasted_token : Rule → Carrier → Carrier → Result Carrier ExpandFault
 pasted_token rule a b =
-    made_kind (a.spelling ++ b.spelling) >>= λ kind.
+    made_kind rule (a.spelling ++ b.spelling) >>= λ kind.
     Ok (record { kind = kind; spelling = a.spelling ++ b.spelling; line = 0; space = a.space; hidden = hidden_by_paste rule a.hidden b.hidden })
 
 -- an argument beside `##`
@@ -404,7 +409,7 @@ or_empty (e ∷ es) = e ∷ es
 -- what stands for these places: for `#` before `__VA_OPT__` a string, in which it does not matter what a token hides
 abbrev pub standing : List Argument → (hash : Option Bool) → List Element → Result (List Element) ExpandFault
 standing args None es = Ok (or_empty es)
-standing args (Some space) es = joined BySets args es >>= λ ts. string_of space ts >>= λ t. Ok (Made space t.spelling ∷ [])
+standing args (Some space) es = joined ByContexts args es >>= λ ts. string_of space ts >>= λ t. Ok (Made space t.spelling ∷ [])
 
 -- what stands for the first of some places, where these come after it
 abbrev pub stands : List Argument → Element → List Element → Result (List Element) ExpandFault

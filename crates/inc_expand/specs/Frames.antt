@@ -140,6 +140,8 @@ pub record IsCallReplaced (rule : Rule) (c : Call) (old new : Work) (rest list :
   pub keeps : Keeps old.sets new.sets
   -- the sets of the new list are in the table
   pub known : AreKnown (size new.sets) list
+  -- no unit came back
+  pub spends : new.meter.units ≤ old.meter.units
   -- with the units that are left there is no more to do
   pub smaller : new.meter.units + length list ≤ old.meter.units + length rest
   -- what goes on with the replacement goes on with the new list

@@ -22,3 +22,6 @@ pub mod SpelledItems
 pub mod Sinks
 pub mod Streams
 pub mod Contexts
+pub mod Openings
+pub mod HeldTokens
+pub mod OpenWalks

@@ -23,7 +23,7 @@ use std::alloc::Global;
 const MANY_TOKENS: usize = 256;
 
 /// How many parentheses are open after a token.
-fn depth_after(deep: usize, token: &Carried<'_, '_>) -> usize
+pub(crate) fn depth_after(deep: usize, token: &Carried<'_, '_>) -> usize
     requires { deep < usize.MAX }
     ensures depth { (s : Sets) → result ≡ depth_after deep (carrier s token.now) }
     ensures more { result ≤ deep + 1 }
@@ -38,7 +38,7 @@ fn depth_after(deep: usize, token: &Carried<'_, '_>) -> usize
 }
 
 /// Whether a token ends a call of which so many inner parentheses are open.
-fn ends_call(deep: usize, token: &Carried<'_, '_>) -> bool
+pub(crate) fn ends_call(deep: usize, token: &Carried<'_, '_>) -> bool
     ensures { (s : Sets) → result ≡ (is_close (carrier s token.now) && (deep == 0)) }
 {
     deep == 0 && is_close(token)

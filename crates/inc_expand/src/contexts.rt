@@ -18,7 +18,7 @@ use inc_token::Kind;
 use std::alloc::{AllocError, Global};
 
 /// Whether a token is an identifier that hides its own name.
-fn is_painted(sets: &HideSets<'_>, token: &Carried<'_, '_>) -> bool
+pub(crate) fn is_painted(sets: &HideSets<'_>, token: &Carried<'_, '_>) -> bool
     requires { token.now.set < size sets.now }
     ensures { result ≡ is_painted (carrier sets.now token.now) }
 {

@@ -3,13 +3,16 @@ ghost use Rattle.std.specs.Prelude.{◌≡◌, ◌≢◌, Ok, Err, IfOk, IfErr, 
 ghost use Rattle.inc_token.specs.Views.{seen};
 ghost use Rattle.inc_expand.specs.Expansion.{expansion};
 ghost use Rattle.inc_expand.specs.Cases.{surroundings_value};
+ghost use Rattle.inc_expand.specs.HeldTokens.{seen_held, seen_ref};
 ghost use Rattle.inc_expand.specs.Items.{seen_item};
+ghost use Rattle.inc_expand.specs.Openings.{opening};
 ghost use Rattle.inc_expand.specs.Places.{surroundings};
 ghost use Rattle.inc_expand.specs.Sinks.{IsExpandedInto, IsStoppedInto};
 
 use crate::budgets::Budget;
 use crate::cases::Surroundings;
 use crate::faults::ExpandFault;
+use crate::held::{Held, HeldRef, all_held, push_all_held};
 use crate::hide_sets::HideSets;
 use crate::items::{Item, items_of};
 use crate::places::{Mode, Place};
@@ -69,6 +72,65 @@ fn stream_in<'a, 'b, S: Sink>(
     around.stream(&mut work, list, sink)?;
     *budget = work.meter;
     Ok(())
+}
+
+/// Expands tokens that wait and those of later lines as one list, in these surroundings.
+fn open_in<'a, 'b>(
+    around: &Surroundings<'a, 'b>,
+    waiting: &[HeldRef<'a>],
+    tokens: &'b [Token<'a>],
+    seed: u64,
+    budget: &mut Budget,
+) -> Result<(Vec<Item<'a>>, Vec<Held<'a>>), ExpandFault>
+    ensures items { IfOk result (λ r.
+        opening (surroundings_value around.now) budget.old (map seen_ref waiting.now) (map seen tokens.now)
+        ≡ Ok (map seen_item r.0.items, map seen_held r.1.items, budget.new)) }
+    ensures fault { IfErr result (λ fault. fault ≢ ExpandFault.NoMemory
+        → opening (surroundings_value around.now) budget.old (map seen_ref waiting.now) (map seen tokens.now) ≡ Err fault) }
+    ensures left { OnErr result (budget.new ≡ budget.old) }
+{
+    let mut work = Work {
+        sets: HideSets::new(around.alloc, seed),
+        meter: *budget,
+    };
+    let mut list = Stack::of_source(around.alloc, tokens);
+    push_all_held(&mut work.sets, waiting, &mut list)?;
+    let out = around.opened(&mut work, &mut list)?;
+    let items = items_of(around.alloc, &out)?;
+    let call = all_held(around.alloc, &work.sets, &mut list)?;
+    *budget = work.meter;
+    Ok((items, call))
+}
+
+/// Expands text of GNU C that goes on in later lines: tokens that wait and those of a run of text lines as one list, up to the call that is open
+/// at its end. It gives what is before that call, and the call, to wait.
+pub fn expand_open<'a>(
+    alloc: Global,
+    waiting: &[HeldRef<'a>],
+    tokens: &[Token<'a>],
+    macros: &'a Macros,
+    seed: u64,
+    place: &Place<'a>,
+    budget: &mut Budget,
+) -> Result<(Vec<Item<'a>>, Vec<Held<'a>>), ExpandFault>
+    ensures items { IfOk result (λ r.
+        opening (surroundings macros.now Mode.Plain place.now) budget.old (map seen_ref waiting.now) (map seen tokens.now)
+        ≡ Ok (map seen_item r.0.items, map seen_held r.1.items, budget.new)) }
+    ensures fault { IfErr result (λ fault. fault ≢ ExpandFault.NoMemory
+        → opening (surroundings macros.now Mode.Plain place.now) budget.old (map seen_ref waiting.now) (map seen tokens.now) ≡ Err fault) }
+    ensures left { OnErr result (budget.new ≡ budget.old) }
+{
+    let arena = Bump::new(alloc);
+    let around = Surroundings {
+        alloc,
+        arena: &arena,
+        macros,
+        mode: Mode::Plain,
+        place: *place,
+    };
+    // Lent anew, for as long as the arena.
+    let source = &*tokens;
+    open_in(&around, waiting, source, seed, budget)
 }
 
 /// Expands a list of tokens of text as `expand` does, and hands each token on as soon as it is known, in place of holding them

@@ -57,7 +57,7 @@ fn spelling_of<'a>(alloc: Global, text: Bytes<'a, '_>) -> Result<Spelling<'a>, A
 }
 
 /// A token on the way as one of the result.
-fn item_of<'a>(alloc: Global, token: &Carried<'a, '_>) -> Result<Item<'a>, AllocError>
+pub(crate) fn item_of<'a>(alloc: Global, token: &Carried<'a, '_>) -> Result<Item<'a>, AllocError>
     ensures { (s : Sets) → IfOk result (λ item. seen_item item ≡ item_of (carrier s token.now)) }
 {
     let spelling = spelling_of(alloc, token.text)?;

@@ -31,9 +31,9 @@ pub fn other_tokens_are_left_alone()
 
 /// Where the tokens that are handed in and those of the macros' bodies lie in the classes that they are said to lie in, and
 /// what `__FILE__`, `__BASE_FILE__`, `__DATE__`, `__TIME__` and `__TIMESTAMP__` give are string literals, each item of an expansion lies in
-/// its class. That is so in each language.
+/// its class. That is so in each language, which is that of the table: `##` makes tokens of it.
 pub fn items_lie_in_their_classes()
-    ensures { (language : Language) (s : Surroundings) (meter : Meter) (tokens : List Tok) →
+    ensures { (language : Language) (s : Surroundings) (meter : Meter) (tokens : List Tok) → s.table.language ≡ language →
         HasSpelledBodies language s.table → HasLiterals s.place → IsTrue (list_all (is_spelled language) tokens) →
         IfOk (expansion s meter tokens) (λ r. IsTrue (list_all (is_spelled_item language) r.0)) }
 {}

@@ -167,7 +167,7 @@ fn string_of_places<'a, 'b>(
     let segments = joined(
         alloc,
         arena,
-        Rule::BySets,
+        Rule::ByContexts,
         sets,
         Places::Inside(places),
         args,

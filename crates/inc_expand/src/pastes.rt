@@ -1,7 +1,8 @@
 //! Tokens joined by `##`, from left to right (ISO/IEC 9899:2018, 6.10.3.3).
 ghost use Rattle.std.specs.Prelude.{◌≡◌, ◌≢◌, ◌<◌, ◌≤◌, ◌∷◌, [], ◌++◌, ℕ, List, length, map, true, false, None, Some, Ok, Err, IfOk, IfErr, OnOk, IfSome, option_map, option_to_list};
+ghost use Rattle.inc_token.specs.Spellings.{class_of};
 ghost use Rattle.inc_expand.specs.Sets.{Sets, size, holds, Keeps};
-ghost use Rattle.inc_expand.specs.Expansion.{Carrier, Part, Piece, Paste, as_part, hidden_by_paste, operand, spaced, pasted, paste_from, tokens_of, made_kind};
+ghost use Rattle.inc_expand.specs.Expansion.{Carrier, Part, Piece, Paste, as_part, hidden_by_paste, operand, spaced, pasted, paste_from, tokens_of, made_kind, spoken};
 ghost use Rattle.inc_expand.specs.Carriers.{carrier, carriers, AreKnown};
 ghost use Rattle.inc_expand.specs.Lent.{lent_tokens};
 ghost use Rattle.inc_expand.specs.Joins.{tokens_in, before_of, put_before, rest_of, IsKnown, IsKnownBefore, IsOpened};
@@ -13,7 +14,6 @@ use crate::lent::Lent;
 use crate::rules::Rule;
 use crate::strings::LONGEST;
 use bumpalo::Bump;
-use inc_text::Language;
 use inc_token::{Kind, kind_of};
 use std::alloc::{AllocError, Global};
 
@@ -34,18 +34,25 @@ pub(crate) enum LeftSide<'a, 'b> {
     Made { set: SetId, kind: Kind, space: bool },
 }
 
+/// The class of the bytes of a token that `##` makes.
+fn made_class(rule: Rule, text: &[u8]) -> Option<Kind>
+    ensures { result ≡ class_of (spoken rule) text.now }
+{
+    kind_of(rule.language(), text)
+}
+
 /// Adds bytes to those of a token, and gives the class of them all.
-fn lengthen(text: &mut Vec<u8>, bytes: &[u8]) -> Result<Kind, ExpandFault>
-    ensures kind { IfOk result (λ kind. made_kind (text.old.items ++ bytes.now) ≡ Ok kind) }
+fn lengthen(rule: Rule, text: &mut Vec<u8>, bytes: &[u8]) -> Result<Kind, ExpandFault>
+    ensures kind { IfOk result (λ kind. made_kind rule (text.old.items ++ bytes.now) ≡ Ok kind) }
     ensures text { OnOk result (text.new.items ≡ text.old.items ++ bytes.now) }
     ensures fault { IfErr result (λ fault. fault ≢ ExpandFault.NoMemory
-        → made_kind (text.old.items ++ bytes.now) ≡ Err fault) }
+        → made_kind rule (text.old.items ++ bytes.now) ≡ Err fault) }
 {
     if bytes.len() > LONGEST || text.len() > LONGEST - bytes.len() {
         return Err(ExpandFault::TokenTooLong);
     }
     text.extend_from_slice(bytes)?;
-    match kind_of(Language::C17, text) {
+    match made_class(rule, text) {
         Some(kind) => Ok(kind),
         None => Err(ExpandFault::BadPaste),
     }
@@ -223,7 +230,7 @@ impl<'s, 'a, 'b> Joiner<'s, 'a, 'b> {
             self.before = LeftSide::Whole(token);
             return Ok(());
         };
-        let kind = lengthen(&mut self.text, token.bytes())?;
+        let kind = lengthen(self.rule, &mut self.text, token.bytes())?;
         let set = set_of_paste(self.rule, sets, set, token.set)?;
         self.before = LeftSide::Made { set, kind, space };
         Ok(())

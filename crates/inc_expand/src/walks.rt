@@ -49,6 +49,13 @@ pub(crate) fn levels_above() -> u32
     1_000
 }
 
+/// How many levels there are above that of an argument of a list that is handed in.
+pub(crate) fn levels_above_arguments() -> u32
+    ensures { suc (suc result) ≡ all_levels }
+{
+    999
+}
+
 /// Pays for a replacement.
 fn pay(budget: &mut Budget, segments: &[Segment<'_, '_, '_>]) -> Result<(), ExpandFault>
     ensures enough { OnOk result (nat_lt budget.old.units (1 + length (tokens_in segments.now)) ≡ false) }
@@ -67,7 +74,7 @@ fn pay(budget: &mut Budget, segments: &[Segment<'_, '_, '_>]) -> Result<(), Expa
 }
 
 /// Replaces a predefined name.
-fn replace_predefined<'a, 'b>(
+pub(crate) fn replace_predefined<'a, 'b>(
     arena: &'b Bump,
     work: &mut Work<'a>,
     token: &Carried<'a, 'b>,
@@ -100,7 +107,7 @@ fn replace_predefined<'a, 'b>(
 }
 
 /// Takes a call whose `(` is next from a list: gives what is inside, and its `)`.
-fn call_of<'a, 'b>(
+pub(crate) fn call_of<'a, 'b>(
     alloc: Global,
     list: &mut Stack<'a, 'b>,
 ) -> Result<(Inside<'a, 'b>, Carried<'a, 'b>), ExpandFault>
@@ -136,7 +143,7 @@ fn hidden_by_both<'a>(
 impl<'a: 'b, 'b> Surroundings<'a, 'b> {
     /// Why a name is not replaced again.
     #[inline(always)]
-    fn rule(&self) -> Rule
+    pub(crate) fn rule(&self) -> Rule
         ensures { result ≡ rule_in (surroundings_value self.now) }
     {
         rule_of(self.macros.language())
@@ -195,7 +202,7 @@ impl<'a: 'b, 'b> Surroundings<'a, 'b> {
     }
 
     /// Replaces the name of an object-like macro.
-    fn replace_object(
+    pub(crate) fn replace_object(
         &self,
         work: &mut Work<'a>,
         token: &Carried<'a, 'b>,
@@ -254,7 +261,7 @@ impl<'a: 'b, 'b> Surroundings<'a, 'b> {
     }
 
     /// Replaces a call whose arguments are expanded.
-    fn replace_call(
+    pub(crate) fn replace_call(
         &self,
         work: &mut Work<'a>,
         call: &Call<'a, 'b>,
@@ -485,13 +492,30 @@ impl<'a: 'b, 'b> Surroundings<'a, 'b> {
             → levels (surroundings_value self.now) all_levels work.old.meter
             (carriers work.old.sets list.entry) ≡ Err fault) }
     {
+        let out = self.expanded_at(work, levels_above(), list)?;
+        Ok(out)
+    }
+
+    /// What a list expands to that has so many levels above it.
+    pub(crate) fn expanded_at(
+        &self,
+        work: &mut Work<'a>,
+        deeper: u32,
+        list: Stack<'a, 'b>,
+    ) -> Result<Vec<Carried<'a, 'b>>, ExpandFault>
+        requires { AreKnown (size work.old.sets) list }
+        ensures expanded { IfOk result (λ out.
+            levels (surroundings_value self.now) (suc deeper) work.old.meter (carriers work.old.sets list.entry)
+            ≡ Ok (carriers work.new.sets out.items, work.new.meter)) }
+        ensures keeps { OnOk result (Keeps work.old.sets work.new.sets) }
+        ensures known { IfOk result (λ out. AreKnown (size work.new.sets) out.items) }
+        ensures fault { IfErr result (λ fault. fault ≢ ExpandFault.NoMemory
+            → levels (surroundings_value self.now) (suc deeper) work.old.meter
+            (carriers work.old.sets list.entry) ≡ Err fault) }
+    {
         let out = Vec::with_capacity(self.alloc, list.len().max(LEAST_ROOM))?;
         let mut frames = Frames::new(self.alloc);
-        let mut level = Level {
-            deeper: levels_above(),
-            list,
-            out,
-        };
+        let mut level = Level { deeper, list, out };
         while self.step(work, &mut frames, &mut level)? {}
         let Level {
             deeper: _,

@@ -6,12 +6,13 @@ use Rattle.inc_text.specs.PhaseText.{phase_text}
 use Rattle.std.proofs.lemmas.Bool.{cond-true, cond-false}
 use Rattle.std.proofs.lemmas.List.{append-nil, length-append}
 use Rattle.std.proofs.lemmas.List.FromFn.{length-map-range_with_len}
+use Rattle.inc_graph.specs.declared.building.Source.{Source}
 use Rattle.inc_graph.specs.Members.{is_member}
-use Rattle.inc_graph.specs.Settings.{Setting}
+use Rattle.inc_graph.specs.Settings.{Setting, layouts_of}
 use Rattle.inc_directive.specs.FileDirectives.{Directive}
 use Rattle.inc_directive.specs.declared.files.FileFault.{FileFault}
 use Rattle.inc_graph.specs.MissingLists.{Missing}
-use Rattle.inc_lookup.specs.Projects.{Layout, Listing, bytes_at, layout_of}
+use Rattle.inc_lookup.specs.Projects.{Listing, bytes_at}
 use Rattle.inc_graph.specs.FileEntries.{Entry}
 use Rattle.inc_graph.specs.declared.building.entries.Entry.TheVariants as entry
 use Rattle.inc_graph.specs.declared.building.GraphRefusal.{GraphRefusal}
@@ -19,7 +20,7 @@ use Rattle.inc_graph.specs.declared.building.GraphRefusal.TheVariants.{TooManyDi
 use Rattle.inc_graph.specs.declared.graphs.Blocker.{Blocker}
 use Rattle.inc_graph.specs.declared.graphs.BlockerKind.TheVariants as kind
 use Rattle.inc_graph.specs.declared.graphs.Edge as declared
-use Rattle.inc_graph.specs.IncludeGraph.{Edge, read_directives, Graph, IsGraphAnswer, is_found, entry_edge, entry_missing, entry_blocker, entries_from, edges_from, missing_from, blockers_from, directive_count, is_defined_in, text_definitions, inner_files, bad_file, most_directives, sized_graph, graph_of_files, graph_or_bad}
+use Rattle.inc_graph.specs.IncludeGraph.{Edge, read_directives, Graph, IsGraphAnswer, is_found, entry_edge, entry_missing, entry_blocker, entries_from, edges_from, missing_from, blockers_from, directive_count, entry_of, is_defined_in, source_files, Start, text_definitions, inner_files, bad_file, most_directives, sized_graph, graph_of_files, graph_or_bad}
 use Rattle.inc_graph.specs.Entries.{entries_of, file_entries}
 use Rattle.inc_graph.specs.Views.{seen_edge}
 use Rattle.inc_graph.specs.ClosureSearch.{AreStates, state_of}
@@ -156,7 +157,7 @@ collected_map give from st test h none k (suc n) =
     collected_cond give from st k (test k) _ (filter test (range_with_len (k + 1) n)) (h k) (none k) (collected_map give from st test h none (k + 1) n)
 
 -- what each file that is read gives, in order
-collected_files : {X : Type 0} (give : ℕ → State → List X) (from : ℕ → List X) (setting : Setting) (listing : Listing) (starts : ℕ → List (Option ℕ)) (headers : List ℕ)
+collected_files : {X : Type 0} (give : ℕ → State → List X) (from : ℕ → List X) (setting : Setting) (listing : Listing) (starts : ℕ → List Start) (headers : List ℕ)
     → ((f : ℕ) → give f (Some (file_entries setting listing (starts f) f)) ≡ from f) → ((f : ℕ) → give f None ≡ [])
     → collected give 0 (map (state_of setting listing starts headers) (range_with_len 0 (length listing.files))) ≡ flat_map from (inner_files listing starts headers)
 collected_files give from setting listing starts headers h none =
@@ -169,20 +170,20 @@ flat_map_options : {X Y : Type 0} (h : X → Option Y) (xs : List X) → flat_ma
 flat_map_options h [] = refl
 flat_map_options h (x ∷ xs) = cons_option-list (h x) (flat_map (λ y. option_to_list (h y)) xs) ∙ ap (cons_option (h x)) (flat_map_options h xs)
 
-bad_of_file : (names : List (List ℕ)) (layout : Layout) (starts : List (Option ℕ)) (file : ℕ) (places : List ℕ) (r : Result (List Directive) FileFault)
-    → bad_state file (Some (entries_of names layout starts file places r)) ≡ option_to_list (elim r [ Ok directives ↦ None | Err fault ↦ Some (file, fault) ])
-bad_of_file names layout starts file places (Ok directives) = refl
-bad_of_file names layout starts file places (Err fault) = refl
+bad_of_file : (what : Directive → Option Entry) (file : ℕ) (places : List ℕ) (r : Result (List Directive) FileFault)
+    → bad_state file (Some (entries_of what places r)) ≡ option_to_list (elim r [ Ok directives ↦ None | Err fault ↦ Some (file, fault) ])
+bad_of_file what file places (Ok directives) = refl
+bad_of_file what file places (Err fault) = refl
 
-pub bads_are : (setting : Setting) (listing : Listing) (starts : ℕ → List (Option ℕ)) (headers : List ℕ) (ss : List State) → ss ≡ map (state_of setting listing starts headers) (range_with_len 0 (length listing.files))
+pub bads_are : (setting : Setting) (listing : Listing) (starts : ℕ → List Start) (headers : List ℕ) (ss : List State) → ss ≡ map (state_of setting listing starts headers) (range_with_len 0 (length listing.files))
     → bad_states 0 ss ≡ filter_map (bad_file setting listing) (inner_files listing starts headers)
 bads_are setting listing starts headers ss e =
     ap (bad_states 0) e
     ∙ collected_files bad_state (λ f. option_to_list (bad_file setting listing f)) setting listing starts headers
-    (λ f. bad_of_file setting.undefined (layout_of listing) (starts f) f (text_definitions setting (phase_text setting.language (bytes_at listing f))) (read_directives setting listing f)) (λ f. refl)
+    (λ f. bad_of_file (entry_of setting.undefined (layouts_of setting listing) (starts f) f) f (text_definitions setting (phase_text setting.language (bytes_at listing f))) (read_directives setting listing f)) (λ f. refl)
     ∙ flat_map_options (bad_file setting listing) (inner_files listing starts headers)
 
-pub length_states : (setting : Setting) (listing : Listing) (sources headers : List ℕ) (ss : List State) → AreStates setting listing sources headers ss → length ss ≡ length listing.files
+pub length_states : (setting : Setting) (listing : Listing) (sources : List Source) (headers : List ℕ) (ss : List State) → AreStates setting listing sources headers ss → length ss ≡ length listing.files
 length_states setting listing sources headers ss h = ap length h.2 ∙ length-map-range_with_len (state_of setting listing h.0 headers) 0 (length listing.files)
 
 -- a graph of no directives
@@ -190,7 +191,7 @@ abbrev pub empty_graph : (files : ℕ) (sources headers : List ℕ) → Graph
 empty_graph files sources headers = record { files = files; sources = sources; headers = headers; edges = []; missing = []; blockers = [] }
 
 -- where names are defined as flags say
-blockers_agree : (setting : Setting) (listing : Listing) (a b : ℕ → Bool) (starts : List (Option ℕ)) (file : ℕ) → ((name : ℕ) → a name ≡ b name) → blockers_from setting listing a starts file ≡ blockers_from setting listing b starts file
+blockers_agree : (setting : Setting) (listing : Listing) (a b : ℕ → Bool) (starts : List Start) (file : ℕ) → ((name : ℕ) → a name ≡ b name) → blockers_from setting listing a starts file ≡ blockers_from setting listing b starts file
 blockers_agree setting listing a b starts file same = filter_map_agree (entry_blocker a file) (entry_blocker b file) one (entries_from setting listing starts file)
   where
     one : (e : Entry) → entry_blocker a file e ≡ entry_blocker b file e
@@ -200,12 +201,12 @@ blockers_agree setting listing a b starts file same = filter_map_agree (entry_bl
     one (entry.ByName name line) = ap (λ (x : Bool). cond x (Some (record { file = file; line = line; kind = kind.Computed })) None) (same name)
     one (entry.Defines name) = refl
 
-pub graph_is : (setting : Setting) (listing : Listing) (sources headers : List ℕ) (starts : ℕ → List (Option ℕ)) (ss : List State) → ss ≡ map (state_of setting listing starts headers) (range_with_len 0 (length listing.files))
+pub graph_is : (setting : Setting) (listing : Listing) (sources : List Source) (headers : List ℕ) (starts : ℕ → List Start) (ss : List State) → ss ≡ map (state_of setting listing starts headers) (range_with_len 0 (length listing.files))
     → (defined : ℕ → Bool) → ((name : ℕ) → defined name ≡ is_defined_in setting listing (inner_files listing starts headers) name)
-    → with_states defined (empty_graph (length listing.files) sources headers) 0 ss ≡ graph_of_files setting listing sources headers starts (inner_files listing starts headers)
+    → with_states defined (empty_graph (length listing.files) (source_files sources) headers) 0 ss ≡ graph_of_files setting listing sources headers starts (inner_files listing starts headers)
 unfolding graph_with with_more
 graph_is setting listing sources headers starts ss e defined agree =
-    let g = empty_graph (length listing.files) sources headers in
+    let g = empty_graph (length listing.files) (source_files sources) headers in
     let st = map (state_of setting listing starts headers) (range_with_len 0 (length listing.files)) in
     let files = inner_files listing starts headers in
     ap (with_states defined g 0) e ∙ with_states_is defined g 0 st
@@ -217,7 +218,7 @@ graph_is setting listing sources headers starts ss e defined agree =
     (λ f. blockers_agree setting listing defined (is_defined_in setting listing files) (starts f) f agree) files)
 
 -- how many directives the files have
-pub count_is : (setting : Setting) (listing : Listing) (starts : ℕ → List (Option ℕ)) (headers : List ℕ) (ss : List State) → ss ≡ map (state_of setting listing starts headers) (range_with_len 0 (length listing.files))
+pub count_is : (setting : Setting) (listing : Listing) (starts : ℕ → List Start) (headers : List ℕ) (ss : List State) → ss ≡ map (state_of setting listing starts headers) (range_with_len 0 (length listing.files))
     → directive_count setting listing starts (inner_files listing starts headers) ≡ total ss
 count_is setting listing starts headers ss e =
     ap length (sym (collected_files (picked_state (λ f. included)) (λ f. entries_from setting listing (starts f) f) setting listing starts headers (λ f. picked_included setting listing (starts f) f) (λ f. refl)))
@@ -225,7 +226,7 @@ count_is setting listing starts headers ss e =
     ∙ ap total (sym e)
 
 -- the edges are no more
-pub edges_few : (setting : Setting) (listing : Listing) (starts : ℕ → List (Option ℕ)) (headers : List ℕ) (ss : List State) → ss ≡ map (state_of setting listing starts headers) (range_with_len 0 (length listing.files))
+pub edges_few : (setting : Setting) (listing : Listing) (starts : ℕ → List Start) (headers : List ℕ) (ss : List State) → ss ≡ map (state_of setting listing starts headers) (range_with_len 0 (length listing.files))
     → length (flat_map (λ f. edges_from setting listing (starts f) f) (inner_files listing starts headers)) ≤ total ss
 edges_few setting listing starts headers ss e =
     let st = map (state_of setting listing starts headers) (range_with_len 0 (length listing.files)) in
@@ -243,12 +244,12 @@ none_is_bad : (bads : List (ℕ × FileFault)) (count : ℕ) (g : Graph) → fir
 none_is_bad [] count g e = refl
 none_is_bad (b ∷ bads) count g e = cc
 
-pub bad_answer : (setting : Setting) (listing : Listing) (sources headers : List ℕ) (ss : List State) (refusal : GraphRefusal) → AreStates setting listing sources headers ss
+pub bad_answer : (setting : Setting) (listing : Listing) (sources : List Source) (headers : List ℕ) (ss : List State) (refusal : GraphRefusal) → AreStates setting listing sources headers ss
     → first_refusal (bad_states 0 ss) ≡ Some refusal → IsGraphAnswer setting listing sources headers (Err refusal)
 bad_answer setting listing sources headers ss refusal h e =
     (h.0, h.1, first_is_bad _ _ _ refusal (ap first_refusal (sym (bads_are setting listing h.0 headers ss h.2)) ∙ e))
 
-sized_answer : (setting : Setting) (listing : Listing) (sources headers : List ℕ) (ss : List State) (answer : Result Graph GraphRefusal) → (h : AreStates setting listing sources headers ss)
+sized_answer : (setting : Setting) (listing : Listing) (sources : List Source) (headers : List ℕ) (ss : List State) (answer : Result Graph GraphRefusal) → (h : AreStates setting listing sources headers ss)
     → first_refusal (bad_states 0 ss) ≡ None → sized_graph (total ss) (graph_of_files setting listing sources headers h.0 (inner_files listing h.0 headers)) ≡ answer → IsGraphAnswer setting listing sources headers answer
 sized_answer setting listing sources headers ss answer h e a =
     let g = graph_of_files setting listing sources headers h.0 (inner_files listing h.0 headers) in (
@@ -260,16 +261,16 @@ sized_answer setting listing sources headers ss answer h e a =
 sized_by : (g : Graph) (n : ℕ) (b : Bool) → nat_lt most_directives n ≡ b → sized_graph n g ≡ cond b (Err TooManyDirectives) (Ok g)
 sized_by g n b t = ap (λ c. cond c (Err TooManyDirectives) (Ok g)) t
 
-pub many_answer : (setting : Setting) (listing : Listing) (sources headers : List ℕ) (ss : List State) → AreStates setting listing sources headers ss
+pub many_answer : (setting : Setting) (listing : Listing) (sources : List Source) (headers : List ℕ) (ss : List State) → AreStates setting listing sources headers ss
     → first_refusal (bad_states 0 ss) ≡ None → nat_lt most_directives (total ss) ≡ true → IsGraphAnswer setting listing sources headers (Err TooManyDirectives)
 many_answer setting listing sources headers ss h e t =
     let g = graph_of_files setting listing sources headers h.0 (inner_files listing h.0 headers) in
     sized_answer setting listing sources headers ss (Err TooManyDirectives) h e (sized_by g (total ss) true t)
 
-pub whole_answer : (setting : Setting) (listing : Listing) (sources headers : List ℕ) (ss : List State) (graph : Graph) → AreStates setting listing sources headers ss
+pub whole_answer : (setting : Setting) (listing : Listing) (sources : List Source) (headers : List ℕ) (ss : List State) (graph : Graph) → AreStates setting listing sources headers ss
     → first_refusal (bad_states 0 ss) ≡ None → nat_lt most_directives (total ss) ≡ false
     → (defined : ℕ → Bool) (count : ℕ) → count ≡ length setting.undefined → ((name : ℕ) → defined name ≡ (nat_lt name count && list_any (state_defines name) ss))
-    → graph ≡ with_states defined (empty_graph (length listing.files) sources headers) 0 ss → IsGraphAnswer setting listing sources headers (Ok graph)
+    → graph ≡ with_states defined (empty_graph (length listing.files) (source_files sources) headers) 0 ss → IsGraphAnswer setting listing sources headers (Ok graph)
 whole_answer setting listing sources headers ss graph h e t defined count count_is flags same =
     let g = graph_of_files setting listing sources headers h.0 (inner_files listing h.0 headers) in
     let agree = flags_agree setting listing h.0 headers ss h.2 defined count count_is flags in

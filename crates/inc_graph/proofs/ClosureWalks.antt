@@ -8,21 +8,23 @@ use Rattle.std.proofs.lemmas.List.Elements.{All-contains, filter_passes, Contain
 use Rattle.std.proofs.lemmas.List.FromFn.{get_or-range_with_len, length-range_with_len}
 use Rattle.std.proofs.lemmas.Option.{slice_get_within, slice_get-get_or, get_or_from_slice_get}
 use Rattle.inc_directive.specs.declared.files.FileFault.{FileFault}
+use Rattle.inc_graph.specs.declared.building.Source.{Source}
 use Rattle.inc_graph.specs.Members.{is_member}
-use Rattle.inc_graph.specs.Settings.{Setting}
+use Rattle.inc_graph.specs.Settings.{Setting, layouts_of}
 use Rattle.inc_directive.specs.FileDirectives.{Directive}
 use Rattle.inc_lookup.specs.declared.projects.Found.{Found}
-use Rattle.inc_lookup.specs.Projects.{Listing, layout_of, bytes_at, File}
+use Rattle.inc_lookup.specs.Projects.{Listing, bytes_at, File}
 use Rattle.inc_graph.specs.declared.graphs.Blocker.{Blocker}
 use Rattle.inc_graph.specs.declared.graphs.BlockerKind.TheVariants as kind
 use Rattle.inc_graph.specs.declared.building.GraphRefusal.{GraphRefusal}
 use Rattle.inc_graph.specs.declared.building.GraphRefusal.TheVariants.{TooManyDirectives}
 use Rattle.inc_text.specs.PhaseText.{phase_text}
-use Rattle.inc_graph.specs.IncludeGraph.{text_directives, graph_directives, Edge, Graph, Several, leads, entry_of, entry_edge, edges_from, blockers_from, is_defined_in, directive_count, as_source, IsStep, IsTour, IsReached, InClosure, IsClosure, is_found, inner_files, most_directives, bad_file, graph_of_files, graph_or_bad, IsGraphAnswer, LeadsToOne}
+use Rattle.inc_graph.specs.IncludeGraph.{Start, found_so, source_files, text_directives, graph_directives, Edge, Graph, Several, leads, entry_of, entry_edge, edges_from, blockers_from, is_defined_in, directive_count, as_source, IsStep, IsTour, IsReached, InClosure, IsClosure, is_found, inner_files, most_directives, bad_file, graph_of_files, graph_or_bad, IsGraphAnswer, LeadsToOne}
 use Rattle.inc_graph.specs.Chains.{target, leaves, is_walk, IsWalkedTo}
 use Rattle.inc_graph.proofs.EntryLemmas.{edges_leave}
 use Rattle.inc_graph.proofs.ClosureLemmas.{reached_push, source_reached}
 use Rattle.inc_graph.proofs.LeadLemmas.{edge_there, blocker_there, edge_by}
+use Rattle.inc_graph.proofs.SourceLemmas.{source_among, among_source}
 use Rattle.inc_graph.proofs.Walks.{leaving_edge}
 
 ---- elements of lists
@@ -36,7 +38,7 @@ contains_tail y xs x c = Contains-append_right (y ∷ []) xs x c
 pub contains_none : {X : Type 0} (x : X) → Contains [] x → ⊥
 contains_none x c = let low = c.1 in omega arith
 
-contains_some : {X : Type 0} (xs : List X) (k : ℕ) (x : X) → slice_get xs k ≡ Some x → Contains xs x
+pub contains_some : {X : Type 0} (xs : List X) (k : ℕ) (x : X) → slice_get xs k ≡ Some x → Contains xs x
 contains_some xs k x e = (k, slice_get_within xs k x e, get_or_from_slice_get xs k x x e)
 
 pub some_contains : {X : Type 0} (xs : List X) (x : X) → Contains xs x → (k : ℕ) × (slice_get xs k ≡ Some x)
@@ -96,16 +98,16 @@ past_none (x ∷ xs) zero low = absurd (omega arith)
 past_none (x ∷ xs) (suc f) low = past_none xs f (omega arith)
 
 -- a file without text has none
-no_text_no_edges : (setting : Setting) (listing : Listing) (starts : List (Option ℕ)) (f : ℕ) → bytes_at listing f ≡ [] → edges_from setting listing starts f ≡ []
+no_text_no_edges : (setting : Setting) (listing : Listing) (starts : List Start) (f : ℕ) → bytes_at listing f ≡ [] → edges_from setting listing starts f ≡ []
 no_text_no_edges setting listing starts f bytes =
-    ap (λ r. filter_map (entry_edge f) (filter_map (entry_of setting.undefined (layout_of listing) starts f) (elim r [ Ok directives ↦ directives | Err fault ↦ [] ])))
+    ap (λ r. filter_map (entry_edge f) (filter_map (entry_of setting.undefined (layouts_of setting listing) starts f) (elim r [ Ok directives ↦ directives | Err fault ↦ [] ])))
     (ap (λ (bs : List ℕ). text_directives setting f (phase_text setting.language bs)) bytes ∙ none_in_no_text setting f)
 
-no_edges : (setting : Setting) (listing : Listing) (starts : List (Option ℕ)) (f : ℕ) → length listing.files ≤ f → edges_from setting listing starts f ≡ []
+no_edges : (setting : Setting) (listing : Listing) (starts : List Start) (f : ℕ) → length listing.files ≤ f → edges_from setting listing starts f ≡ []
 no_edges setting listing starts f low =
     no_text_no_edges setting listing starts f (ap (λ (o : Option File). option_map_or (λ (x : File). x.bytes) o []) (past_none listing.files f low))
 
-pub edge_within : (setting : Setting) (listing : Listing) (starts : List (Option ℕ)) (f : ℕ) (e : Edge) → Contains (edges_from setting listing starts f) e → f < length listing.files
+pub edge_within : (setting : Setting) (listing : Listing) (starts : List Start) (f : ℕ) (e : Edge) → Contains (edges_from setting listing starts f) e → f < length listing.files
 edge_within setting listing starts f e c =
     elim (cases_lt f (length listing.files)) [
       | inl low ↦ low
@@ -113,7 +115,7 @@ edge_within setting listing starts f e c =
     ]
 
 -- a directive is in a file of the list
-directive_within : (setting : Setting) (listing : Listing) (f : ℕ) (d : Directive) → Contains (graph_directives setting listing f) d → f < length listing.files
+pub directive_within : (setting : Setting) (listing : Listing) (f : ℕ) (d : Directive) → Contains (graph_directives setting listing f) d → f < length listing.files
 directive_within setting listing f d c =
     elim (cases_lt f (length listing.files)) [
       | inl low ↦ low
@@ -124,12 +126,12 @@ directive_within setting listing f d c =
           absurd (contains_none d (subst (λ ds. Contains ds d) none c))
     ]
 
-pub inner_file : (listing : Listing) (starts : ℕ → List (Option ℕ)) (headers : List ℕ) (f : ℕ) → f < length listing.files → is_found (starts f) ≡ true → is_member f headers ≡ false → Contains (inner_files listing starts headers) f
+pub inner_file : (listing : Listing) (starts : ℕ → List Start) (headers : List ℕ) (f : ℕ) → f < length listing.files → is_found (starts f) ≡ true → is_member f headers ≡ false → Contains (inner_files listing starts headers) f
 inner_file listing starts headers f low here other =
     kept (λ x. is_found (starts x) && not (is_member x headers)) (range_with_len 0 (length listing.files)) f (in_range (length listing.files) f low)
     (and_from (is_found (starts f)) (not (is_member f headers)) here (not_from_false (is_member f headers) other))
 
-inner_is : (listing : Listing) (starts : ℕ → List (Option ℕ)) (headers : List ℕ) (f : ℕ) → Contains (inner_files listing starts headers) f → (is_found (starts f) ≡ true) × (is_member f headers ≡ false)
+inner_is : (listing : Listing) (starts : ℕ → List Start) (headers : List ℕ) (f : ℕ) → Contains (inner_files listing starts headers) f → (is_found (starts f) ≡ true) × (is_member f headers ≡ false)
 inner_is listing starts headers f c =
     let passes = All-contains (λ x. (is_found (starts x) && not (is_member x headers)) ≡ true) (inner_files listing starts headers) f (filter_passes (λ x. is_found (starts x) && not (is_member x headers)) (range_with_len 0 (length listing.files))) c in
     let parts = and_parts (is_found (starts f)) (not (is_member f headers)) passes in
@@ -137,24 +139,24 @@ inner_is listing starts headers f c =
 
 ---- the files that are found
 
-pub some_start : (starts : List (Option ℕ)) → is_found starts ≡ true → (next : Option ℕ) × Contains starts next
+pub some_start : (starts : List Start) → is_found starts ≡ true → (start : Start) × Contains starts start
 some_start [] is = absurd (false≢true is)
 some_start (n ∷ ns) is = (n, contains_head n ns)
 
-start_found : (starts : List (Option ℕ)) (next : Option ℕ) → Contains starts next → is_found starts ≡ true
-start_found [] next c = absurd (contains_none next c)
-start_found (n ∷ ns) next c = refl
+pub start_found : (starts : List Start) (start : Start) → Contains starts start → is_found starts ≡ true
+start_found [] start c = absurd (contains_none start c)
+start_found (n ∷ ns) start c = refl
 
 -- they are the files of the closure
-pub found_inside : (setting : Setting) (listing : Listing) (sources headers : List ℕ) (starts : ℕ → List (Option ℕ)) → IsClosure setting listing sources headers starts
+pub found_inside : (setting : Setting) (listing : Listing) (sources : List Source) (headers : List ℕ) (starts : ℕ → List Start) → IsClosure setting listing sources headers starts
     → (f : ℕ) → is_found (starts f) ≡ true → InClosure setting listing sources headers f
 found_inside setting listing sources headers starts closure f found =
     let s = some_start (starts f) found in
-    record { next = s.0; reached = (closure (record { file = f; next = s.0 })).0 s.1 }
+    record { start = s.0; reached = (closure f s.0).0 s.1 }
 
-pub inside_found : (setting : Setting) (listing : Listing) (sources headers : List ℕ) (starts : ℕ → List (Option ℕ)) → IsClosure setting listing sources headers starts
+pub inside_found : (setting : Setting) (listing : Listing) (sources : List Source) (headers : List ℕ) (starts : ℕ → List Start) → IsClosure setting listing sources headers starts
     → (f : ℕ) → InClosure setting listing sources headers f → is_found (starts f) ≡ true
-inside_found setting listing sources headers starts closure f w = start_found (starts f) w.next ((closure (record { file = f; next = w.next })).1 w.reached)
+inside_found setting listing sources headers starts closure f w = start_found (starts f) w.start ((closure f w.start).1 w.reached)
 
 ---- the graph that is answered
 
@@ -168,12 +170,12 @@ answer_is (b ∷ bads) count h g e = cc
 
 ---- walks by edges and steps
 
-module _ (setting : Setting) (listing : Listing) (sources headers : List ℕ) (starts : ℕ → List (Option ℕ)) (closure : IsClosure setting listing sources headers starts) where
+module _ (setting : Setting) (listing : Listing) (sources : List Source) (headers : List ℕ) (starts : ℕ → List Start) (closure : IsClosure setting listing sources headers starts) where
   -- the edges of the graph are those of the files that are found, but the headers
-  record IsOfFiles (g : Graph) : Type 0 where
-    known : (k : ℕ) (e : Edge) → slice_get g.edges k ≡ Some e → Contains (edges_from setting listing (starts e.from) e.from) e × (is_found (starts e.from) ≡ true) × (is_member e.from headers ≡ false)
-    numbered : (e : Edge) → Contains (edges_from setting listing (starts e.from) e.from) e → is_found (starts e.from) ≡ true → is_member e.from headers ≡ false → (k : ℕ) × (slice_get g.edges k ≡ Some e)
-    stopped : (b : Blocker) → Contains (blockers_from setting listing (is_defined_in setting listing (inner_files listing starts headers)) (starts b.file) b.file) b → b.file < length listing.files → is_found (starts b.file) ≡ true → is_member b.file headers ≡ false → Contains g.blockers b
+  pub record IsOfFiles (g : Graph) : Type 0 where
+    pub known : (k : ℕ) (e : Edge) → slice_get g.edges k ≡ Some e → Contains (edges_from setting listing (starts e.from) e.from) e × (is_found (starts e.from) ≡ true) × (is_member e.from headers ≡ false)
+    pub numbered : (e : Edge) → Contains (edges_from setting listing (starts e.from) e.from) e → is_found (starts e.from) ≡ true → is_member e.from headers ≡ false → (k : ℕ) × (slice_get g.edges k ≡ Some e)
+    pub stopped : (b : Blocker) → Contains (blockers_from setting listing (is_defined_in setting listing (inner_files listing starts headers)) (starts b.file) b.file) b → b.file < length listing.files → is_found (starts b.file) ≡ true → is_member b.file headers ≡ false → Contains g.blockers b
 
   of_files : IsOfFiles (graph_of_files setting listing sources headers starts (inner_files listing starts headers))
   of_files =
@@ -201,10 +203,11 @@ module _ (setting : Setting) (listing : Listing) (sources headers : List ℕ) (s
     edge_inside k e at =
         let edge = of.known k e at in
         let d = edge_by setting listing (starts e.from) e.from e edge.0 in
-        let a : Found = record { file = e.from; next = d.2.0 } in
+        let s : Start = d.2.0 in
         record {
-          next = d.2.2.0;
-          reached = reached_push setting listing sources headers a (record { file = e.to; next = d.2.2.0 }) ((closure a).0 d.2.1) (record { directive = d.0; there = d.1; leads = d.2.2.1; before = edge.2 });
+          start = record { path = s.path; next = d.2.2.0 };
+          reached = reached_push setting listing sources headers s.path (found_so e.from s) (record { file = e.to; next = d.2.2.0 }) ((closure e.from s).0 d.2.1)
+              (record { directive = d.0; there = d.1; leads = d.2.2.1; before = edge.2 });
         }
 
     walk_inside : (w : List ℕ) (a b : ℕ) → InClosure setting listing sources headers a → is_walk g a w b ≡ true → InClosure setting listing sources headers b
@@ -216,63 +219,65 @@ module _ (setting : Setting) (listing : Listing) (sources headers : List ℕ) (s
         walk_inside is (target g i) b (subst (InClosure setting listing sources headers) (sym to) (edge_inside i e.0 e.1)) steps.1
 
     -- a step is an edge, where no directive leads to several files
-    step_numbered : LeadsToOne g → (a b : Found) → IsReached setting listing sources headers a → IsStep setting listing headers a b
+    step_numbered : LeadsToOne g → (path : ℕ) (a b : Found) → IsReached setting listing sources headers path a → IsStep setting listing headers path a b
         → (k : ℕ) × ((e : Edge) × (slice_get g.edges k ≡ Some e) × (e.from ≡ a.file) × (e.to ≡ b.file))
-    step_numbered one a b reached step =
-        let way : Contains (starts a.file) a.next = (closure a).1 reached in
-        let found : is_found (starts a.file) ≡ true = start_found (starts a.file) a.next way in
-        let single : leads (layout_of listing) (starts a.file) a.file step.directive ≢ Several = λ several.
+    step_numbered one path a b reached step =
+        let start : Start = record { path = path; next = a.next } in
+        let way : Contains (starts a.file) start = (closure a.file start).1 reached in
+        let found : is_found (starts a.file) ≡ true = start_found (starts a.file) start way in
+        let single : leads (layouts_of setting listing) (starts a.file) a.file step.directive ≢ Several = λ several.
         let stop : Blocker = record { file = a.file; line = step.directive.line; kind = kind.Several } in
         All-contains (λ (x : Blocker). x.kind ≢ kind.Several) g.blockers stop one
-        (of.stopped stop (blocker_there setting listing (is_defined_in setting listing (inner_files listing starts headers)) (starts a.file) a.file step.directive a.next b step.there step.leads several)
+        (of.stopped stop (blocker_there setting listing (is_defined_in setting listing (inner_files listing starts headers)) (starts a.file) a.file step.directive start b step.there step.leads several)
         (directive_within setting listing a.file step.directive step.there) found step.before) refl in
         let e : Edge = record { from = a.file; to = b.file; line = step.directive.line } in
-        let k = of.numbered e (edge_there setting listing (starts a.file) a.file step.directive a.next b way step.there step.leads single) found step.before in
+        let k = of.numbered e (edge_there setting listing (starts a.file) a.file step.directive start b way step.there step.leads single) found step.before in
         (k.0, (e, k.1, refl, refl))
 
-    tour_numbered : LeadsToOne g → (tour : List Found) (a b : Found) → IsReached setting listing sources headers a → IsTour setting listing headers a tour b → (w : List ℕ) × (is_walk g a.file w b.file ≡ true)
-    tour_numbered one [] a b reached at = ([], eq-eqb a.file b.file (ap (λ (x : Found). x.file) at))
-    tour_numbered one (c ∷ cs) a b reached tour =
-        let at = step_numbered one a c reached tour.0 in
-        let rest = tour_numbered one cs c b (reached_push setting listing sources headers a c reached tour.0) tour.1 in
+    tour_numbered : LeadsToOne g → (path : ℕ) (tour : List Found) (a b : Found) → IsReached setting listing sources headers path a → IsTour setting listing headers path a tour b → (w : List ℕ) × (is_walk g a.file w b.file ≡ true)
+    tour_numbered one path [] a b reached at = ([], eq-eqb a.file b.file (ap (λ (x : Found). x.file) at))
+    tour_numbered one path (c ∷ cs) a b reached tour =
+        let at = step_numbered one path a c reached tour.0 in
+        let rest = tour_numbered one path cs c b (reached_push setting listing sources headers path a c reached tour.0) tour.1 in
         let leaving : leaves g a.file at.0 ≡ true = ap (λ (o : Option Edge). option_map_or (λ (x : Edge). x.from == a.file) o false) at.1.1 ∙ eq-eqb at.1.0.from a.file at.1.2 in
         let to : target g at.0 ≡ c.file = ap (λ (o : Option Edge). option_map_or (λ (x : Edge). x.to) o 0) at.1.1 ∙ at.1.3 in
         (at.0 ∷ rest.0, and_from (leaves g a.file at.0) (is_walk g (target g at.0) rest.0 b.file) leaving (ap (λ f. is_walk g f rest.0 b.file) to ∙ rest.1))
 
-    closure_walks : sources ≡ g.sources → LeadsToOne g → (f : ℕ) → InClosure setting listing sources headers f ↔ IsWalkedTo g f
+    closure_walks : source_files sources ≡ g.sources → LeadsToOne g → (f : ℕ) → InClosure setting listing sources headers f ↔ IsWalkedTo g f
     closure_walks start one f = (
       λ c.
           let r = c.reached in
-          let w = tour_numbered one r.tour (as_source r.source) (record { file = f; next = c.next }) (source_reached setting listing sources headers r.source r.among) r.real in
-          record { source = r.source; among = ap (is_member r.source) (sym start) ∙ r.among; walk = w.0; real = w.1 },
+          let w = tour_numbered one c.start.path r.tour (as_source r.source) (found_so f c.start) (source_reached setting listing sources headers c.start.path r.source r.among) r.real in
+          record { source = r.source; among = ap (is_member r.source) (sym start) ∙ source_among sources r.source c.start.path r.among; walk = w.0; real = w.1 },
       λ w.
-          let inside : InClosure setting listing sources headers w.source = record { next = None; reached = source_reached setting listing sources headers w.source (ap (is_member w.source) start ∙ w.among) } in
+          let s = among_source sources w.source (ap (is_member w.source) start ∙ w.among) in
+          let inside : InClosure setting listing sources headers w.source = record { start = record { path = s.0; next = None }; reached = source_reached setting listing sources headers s.0 w.source s.1 } in
           walk_inside w.walk w.source f inside w.real,
     )
 
-module _ (setting : Setting) (listing : Listing) (sources headers : List ℕ) (g : Graph) (h : IsGraphAnswer setting listing sources headers (Ok g)) where
-  answer_files : graph_of_files setting listing sources headers h.0 (inner_files listing h.0 headers) ≡ g
+module _ (setting : Setting) (listing : Listing) (sources : List Source) (headers : List ℕ) (g : Graph) (h : IsGraphAnswer setting listing sources headers (Ok g)) where
+  pub answer_files : graph_of_files setting listing sources headers h.0 (inner_files listing h.0 headers) ≡ g
   answer_files =
       let files = inner_files listing h.0 headers in
       answer_is (filter_map (bad_file setting listing) files) (directive_count setting listing h.0 files) (graph_of_files setting listing sources headers h.0 files) g h.2
 
-  answer_of : IsOfFiles setting listing sources headers h.0 h.1 g
+  pub answer_of : IsOfFiles setting listing sources headers h.0 h.1 g
   answer_of = subst (IsOfFiles setting listing sources headers h.0 h.1) answer_files (of_files setting listing sources headers h.0 h.1)
 
-pub closure_by_walks : (setting : Setting) (listing : Listing) (sources headers : List ℕ) (g : Graph) → IsGraphAnswer setting listing sources headers (Ok g) → LeadsToOne g
+pub closure_by_walks : (setting : Setting) (listing : Listing) (sources : List Source) (headers : List ℕ) (g : Graph) → IsGraphAnswer setting listing sources headers (Ok g) → LeadsToOne g
     → (f : ℕ) → InClosure setting listing sources headers f ↔ IsWalkedTo g f
 closure_by_walks setting listing sources headers g h one f =
     closure_walks setting listing sources headers h.0 h.1 g (answer_of setting listing sources headers g h)
     (ap (λ (x : Graph). x.sources) (answer_files setting listing sources headers g h)) one f
 
 -- an edge of the graph leaves from a file of the closure
-pub edge_in_closure : (setting : Setting) (listing : Listing) (sources headers : List ℕ) (g : Graph) → IsGraphAnswer setting listing sources headers (Ok g)
+pub edge_in_closure : (setting : Setting) (listing : Listing) (sources : List Source) (headers : List ℕ) (g : Graph) → IsGraphAnswer setting listing sources headers (Ok g)
     → (k : ℕ) (e : Edge) → slice_get g.edges k ≡ Some e → InClosure setting listing sources headers e.from
 edge_in_closure setting listing sources headers g h k e at =
     found_inside setting listing sources headers h.0 h.1 e.from ((answer_of setting listing sources headers g h).known k e at).1
 
 -- and from one with a text
-pub edge_in_text : (setting : Setting) (listing : Listing) (sources headers : List ℕ) (g : Graph) → IsGraphAnswer setting listing sources headers (Ok g)
+pub edge_in_text : (setting : Setting) (listing : Listing) (sources : List Source) (headers : List ℕ) (g : Graph) → IsGraphAnswer setting listing sources headers (Ok g)
     → (k : ℕ) (e : Edge) → slice_get g.edges k ≡ Some e → bytes_at listing e.from ≡ [] → ⊥
 edge_in_text setting listing sources headers g h k e at none =
     let edge = (answer_of setting listing sources headers g h).known k e at in

@@ -14,7 +14,7 @@ use Rattle.inc_directive.specs.declared.kinds.DirectiveKind.TheVariants.{Foreign
 use Rattle.inc_text.specs.PhaseText.{phase_text}
 use Rattle.inc_token.specs.LineWalk.{lines_or_none}
 use Rattle.inc_token.specs.TokenLines.{token_lines}
-use Rattle.inc_lookup.specs.Projects.{Layout, Listing, bytes_at, layout_of}
+use Rattle.inc_lookup.specs.Projects.{Layout, Listing, bytes_at}
 use Rattle.inc_graph.specs.FileEntries.{Entry}
 use Rattle.inc_graph.specs.declared.building.entries.Entry.TheVariants as entry
 use Rattle.inc_graph.specs.ClosureSearch.{state_of}
@@ -22,9 +22,9 @@ use Rattle.inc_graph.specs.Entries.{entries_of, file_entries, seen_state}
 use Rattle.inc_graph.specs.GraphLists.{State, defines, flag_at, state_defines}
 use Rattle.inc_lookup.specs.declared.projects.Form.TheVariants as form
 use Rattle.inc_graph.specs.HeaderNames.{HeaderName, header_of}
-use Rattle.inc_graph.specs.IncludeGraph.{Lead, Nowhere, To, Several, leads, lead_entry, name_entry, undefined_place, entry_at, entry_of, places_defined, text_definitions, file_definitions, is_defined_in, inner_files, is_found, read_directives}
+use Rattle.inc_graph.specs.IncludeGraph.{Lead, Nowhere, To, Several, leads, lead_entry, name_entry, undefined_place, entry_at, entry_of, places_defined, text_definitions, file_definitions, is_defined_in, inner_files, is_found, read_directives, Start}
 use Rattle.inc_graph.specs.Members.{is_member}
-use Rattle.inc_graph.specs.Settings.{Setting}
+use Rattle.inc_graph.specs.Settings.{Setting, layouts_of}
 use Rattle.inc_graph.specs.declared.building.file_entries.FileState.{FileState}
 use Rattle.inc_graph.specs.declared.building.file_entries.FileState.TheVariants.{Unread, Read, Bad}
 use Rattle.inc_graph.proofs.PlaceLemmas.{take_more}
@@ -49,26 +49,26 @@ one_defines name names lead (Include by Computed) line es = refl
 one_defines name names lead (Other Foreign) line es = refl
 one_defines name names lead _ line es = refl
 
-all_define : (name : ℕ) (names : List (List ℕ)) (layout : Layout) (starts : List (Option ℕ)) (file : ℕ) (ds : List Directive) → list_any (defines name) (filter_map (entry_of names layout starts file) ds) ≡ false
-all_define name names layout starts file [] = refl
-all_define name names layout starts file (d ∷ ds) =
-    one_defines name names (leads layout starts file d) d.kind d.line (filter_map (entry_of names layout starts file) ds) ∙ all_define name names layout starts file ds
+all_define : (name : ℕ) (names : List (List ℕ)) (layouts : ℕ → Layout) (starts : List Start) (file : ℕ) (ds : List Directive) → list_any (defines name) (filter_map (entry_of names layouts starts file) ds) ≡ false
+all_define name names layouts starts file [] = refl
+all_define name names layouts starts file (d ∷ ds) =
+    one_defines name names (leads layouts starts file d) d.kind d.line (filter_map (entry_of names layouts starts file) ds) ∙ all_define name names layouts starts file ds
 
 places_define : (name : ℕ) (places : List ℕ) → list_any (defines name) (map entry.Defines places) ≡ list_any (λ n. n == name) places
 places_define name [] = refl
 places_define name (n ∷ ns) = ap (λ b. (n == name) || b) (places_define name ns)
 
-entries_define : (name : ℕ) (names : List (List ℕ)) (layout : Layout) (starts : List (Option ℕ)) (file : ℕ) (places : List ℕ) (r : Result (List Directive) FileFault)
-    → state_defines name (Some (entries_of names layout starts file places r)) ≡ list_any (λ n. n == name) (elim r [ Ok directives ↦ places | Err fault ↦ [] ])
-entries_define name names layout starts file places (Ok ds) =
-    list_any-append (defines name) (filter_map (entry_of names layout starts file) ds) (map entry.Defines places)
-    ∙ ap (λ b. b || list_any (defines name) (map entry.Defines places)) (all_define name names layout starts file ds)
+entries_define : (name : ℕ) (names : List (List ℕ)) (layouts : ℕ → Layout) (starts : List Start) (file : ℕ) (places : List ℕ) (r : Result (List Directive) FileFault)
+    → state_defines name (Some (entries_of (entry_of names layouts starts file) places r)) ≡ list_any (λ n. n == name) (elim r [ Ok directives ↦ places | Err fault ↦ [] ])
+entries_define name names layouts starts file places (Ok ds) =
+    list_any-append (defines name) (filter_map (entry_of names layouts starts file) ds) (map entry.Defines places)
+    ∙ ap (λ b. b || list_any (defines name) (map entry.Defines places)) (all_define name names layouts starts file ds)
     ∙ places_define name places
-entries_define name names layout starts file places (Err fault) = refl
+entries_define name names layouts starts file places (Err fault) = refl
 
-file_defines : (setting : Setting) (listing : Listing) (starts : List (Option ℕ)) (name file : ℕ) → state_defines name (Some (file_entries setting listing starts file)) ≡ list_any (λ n. n == name) (file_definitions setting listing file)
+file_defines : (setting : Setting) (listing : Listing) (starts : List Start) (name file : ℕ) → state_defines name (Some (file_entries setting listing starts file)) ≡ list_any (λ n. n == name) (file_definitions setting listing file)
 file_defines setting listing starts name file =
-    entries_define name setting.undefined (layout_of listing) starts file (text_definitions setting (phase_text setting.language (bytes_at listing file))) (read_directives setting listing file)
+    entries_define name setting.undefined (layouts_of setting listing) starts file (text_definitions setting (phase_text setting.language (bytes_at listing file))) (read_directives setting listing file)
 
 ---- what the files of the closure define
 
@@ -83,7 +83,7 @@ any_map give from st test h none k zero = refl
 any_map give from st test h none k (suc n) =
     any_cond give from true (test k) _ (st k) k (filter test (range_with_len (k + 1) n)) (h k) (none k) (any_map give from st test h none (k + 1) n)
 
-states_define : (setting : Setting) (listing : Listing) (starts : ℕ → List (Option ℕ)) (headers : List ℕ) (ss : List State) → ss ≡ map (state_of setting listing starts headers) (range_with_len 0 (length listing.files))
+states_define : (setting : Setting) (listing : Listing) (starts : ℕ → List Start) (headers : List ℕ) (ss : List State) → ss ≡ map (state_of setting listing starts headers) (range_with_len 0 (length listing.files))
     → (name : ℕ) → list_any (state_defines name) ss ≡ is_defined_in setting listing (inner_files listing starts headers) name
 states_define setting listing starts headers ss e name =
     let test : ℕ → Bool = λ f. is_found (starts f) && not (is_member f headers) in
@@ -127,7 +127,7 @@ files_low setting listing (f ∷ fs) name t =
     ]
 
 -- so flags for these places say which names are defined
-pub flags_agree : (setting : Setting) (listing : Listing) (starts : ℕ → List (Option ℕ)) (headers : List ℕ) (ss : List State) → ss ≡ map (state_of setting listing starts headers) (range_with_len 0 (length listing.files))
+pub flags_agree : (setting : Setting) (listing : Listing) (starts : ℕ → List Start) (headers : List ℕ) (ss : List State) → ss ≡ map (state_of setting listing starts headers) (range_with_len 0 (length listing.files))
     → (defined : ℕ → Bool) (count : ℕ) → count ≡ length setting.undefined → ((name : ℕ) → defined name ≡ (nat_lt name count && list_any (state_defines name) ss))
     → (name : ℕ) → defined name ≡ is_defined_in setting listing (inner_files listing starts headers) name
 flags_agree setting listing starts headers ss e defined count count_is flags name =

@@ -7,7 +7,7 @@ use Rattle.std.proofs.lemmas.Bool.{and_parts, or_left, or_right, or_cases, lt-lt
 use Rattle.std.proofs.lemmas.List.Sums.{AllPass-from_list_all}
 use Rattle.std.proofs.lemmas.List.Elements.{All-nil, All-cons, All-head, All-tail, All-weaker, All-map}
 use Rattle.inc_graph.specs.Members.{is_member}
-use Rattle.inc_graph.specs.Settings.{Setting}
+use Rattle.inc_graph.specs.Settings.{Setting, layouts_of}
 use Rattle.inc_text.specs.PhaseText.{phase_text}
 use Rattle.inc_directive.specs.LineKinds.{LineKind, Include, Other, Quoted, Angled, ByName, Computed}
 use Rattle.inc_directive.specs.declared.kinds.DirectiveKind.TheVariants.{Foreign}
@@ -17,10 +17,10 @@ use Rattle.inc_directive.specs.declared.files.FileFault.{FileFault}
 use Rattle.inc_directive.specs.Removal.{stays, without}
 use Rattle.inc_directive.proofs.LineOrder.{AscendFrom, lower, file_directives-ascend}
 use Rattle.inc_lookup.specs.DirectiveLists.{is_listed}
-use Rattle.inc_lookup.specs.Projects.{Layout, Listing, layout_of, bytes_at}
+use Rattle.inc_lookup.specs.Projects.{Layout, Listing, bytes_at}
 use Rattle.inc_lookup.specs.declared.projects.Form.TheVariants as form
 use Rattle.inc_graph.specs.HeaderNames.{HeaderName, header_of}
-use Rattle.inc_graph.specs.IncludeGraph.{Edge, Lead, Nowhere, To, Several, leads, lead_entry, name_entry, undefined_place, entry_at, entry_of, entry_edge, read_directives, graph_directives, edges_from, is_found, inner_files, is_edge_before, are_ordered}
+use Rattle.inc_graph.specs.IncludeGraph.{Edge, Lead, Nowhere, To, Several, leads, lead_entry, name_entry, undefined_place, entry_at, entry_of, entry_edge, read_directives, graph_directives, edges_from, is_found, inner_files, is_edge_before, are_ordered, Start}
 
 pub both : (s t : Bool) → s ≡ true → t ≡ true → (s && t) ≡ true
 both s t a b = ap (λ u. u && t) a ∙ b
@@ -80,10 +80,10 @@ leave_with names file line at lead (Include by Computed) es le h = leave-lower f
 leave_with names file line at lead (Other Foreign) es le h = leave-lower file line (at + 1) (filter_map (entry_edge file) es) (omega arith) h
 leave_with names file line at lead _ es le h = leave-lower file line (at + 1) (filter_map (entry_edge file) es) (omega arith) h
 
-leave_in : (names : List (List ℕ)) (layout : Layout) (starts : List (Option ℕ)) (file line : ℕ) (ds : List Directive) → AscendFrom line ds → Leave file line (filter_map (entry_edge file) (filter_map (entry_of names layout starts file) ds))
-leave_in names layout starts file line [] h = tt
-leave_in names layout starts file line (d ∷ ds) h =
-    leave_with names file line d.line (leads layout starts file d) d.kind (filter_map (entry_of names layout starts file) ds) h.0 (leave_in names layout starts file (d.line + 1) ds h.1)
+leave_in : (names : List (List ℕ)) (layouts : ℕ → Layout) (starts : List Start) (file line : ℕ) (ds : List Directive) → AscendFrom line ds → Leave file line (filter_map (entry_edge file) (filter_map (entry_of names layouts starts file) ds))
+leave_in names layouts starts file line [] h = tt
+leave_in names layouts starts file line (d ∷ ds) h =
+    leave_with names file line d.line (leads layouts starts file d) d.kind (filter_map (entry_of names layouts starts file) ds) h.0 (leave_in names layouts starts file (d.line + 1) ds h.1)
 
 ascend_or : (r : Result (List Directive) FileFault) → IfOk r (AscendFrom 1) → AscendFrom 1 (elim r [ Ok directives ↦ directives | Err fault ↦ [] ])
 ascend_or (Ok ds) h = h
@@ -106,8 +106,8 @@ directives_ascend setting listing file =
     (without-ascend (is_listed setting.removed file) 1 (file_directives setting.language (phase_text setting.language (bytes_at listing file)))
     (file_directives-ascend setting.language (bytes_at listing file)))
 
-leave_file : (setting : Setting) (listing : Listing) (starts : List (Option ℕ)) (file : ℕ) → Leave file 1 (edges_from setting listing starts file)
-leave_file setting listing starts file = leave_in setting.undefined (layout_of listing) starts file 1 (graph_directives setting listing file) (directives_ascend setting listing file)
+leave_file : (setting : Setting) (listing : Listing) (starts : List Start) (file : ℕ) → Leave file 1 (edges_from setting listing starts file)
+leave_file setting listing starts file = leave_in setting.undefined (layouts_of setting listing) starts file 1 (graph_directives setting listing file) (directives_ascend setting listing file)
 
 ---- the edges of all files
 
@@ -171,6 +171,6 @@ pub order_range : (from : ℕ → List Edge) (test : ℕ → Bool) → ((file : 
 order_range from test h k zero = record { above = All-nil (λ (e : Edge). k ≤ e.from); lines = All-nil (λ (e : Edge). 1 ≤ e.line); ordered = refl; rising = λ i j d h low. absurd (omega arith) }
 order_range from test h k (suc n) = order_cond from k (test k) (filter test (range_with_len (k + 1) n)) (h k) (order_range from test h (k + 1) n)
 
-pub in_order : (setting : Setting) (listing : Listing) (starts : ℕ → List (Option ℕ)) (headers : List ℕ) → InOrder 0 (flat_map (λ f. edges_from setting listing (starts f) f) (inner_files listing starts headers))
+pub in_order : (setting : Setting) (listing : Listing) (starts : ℕ → List Start) (headers : List ℕ) → InOrder 0 (flat_map (λ f. edges_from setting listing (starts f) f) (inner_files listing starts headers))
 in_order setting listing starts headers =
     order_range (λ f. edges_from setting listing (starts f) f) (λ f. is_found (starts f) && not (is_member f headers)) (λ f. leave_file setting listing (starts f) f) 0 (length listing.files)

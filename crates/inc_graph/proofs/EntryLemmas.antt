@@ -1,13 +1,13 @@
 -- Edges, missing directives and blockers of a file are its include directives, each of them just one of the three; edges lead to
 -- files of the project.
-use Rattle.std.proofs.Common.{◌≡◌, ℕ, ◌<◌, ◌==◌, Bool, true, false, cond, if◌then◌else◌, List, [], ◌∷◌, ◌++◌, Option, Some, None, Result, Ok, Err, length, map, refl, ap, subst, ◌∙◌}
+use Rattle.std.proofs.Common.{◌≡◌, ℕ, ◌<◌, ◌==◌, Bool, true, false, cond, if◌then◌else◌, List, [], ◌∷◌, ◌++◌, Option, Some, None, Result, Ok, Err, length, map, refl, ap, subst, ◌∙◌, zero, suc, arith}
 use Rattle.std.specs.Prelude.{filter_map, option_map, option_and_then, IfSome, bytes_eq}
 use Rattle.std.specs.List.{cons_option, All}
 use Rattle.std.proofs.lemmas.Option.{same_Some}
 use Rattle.std.proofs.lemmas.List.{append-nil, length-map}
 use Rattle.std.proofs.lemmas.List.Elements.{All-append, All-nil, All-cons, filter_map-append}
 use Rattle.std.proofs.lemmas.List.Quantifiers.{position-Some}
-use Rattle.inc_graph.specs.Settings.{Setting}
+use Rattle.inc_graph.specs.Settings.{Setting, layouts_of, layout_in}
 use Rattle.inc_directive.specs.LineKinds.{LineKind, Include, Other, Quoted, Angled, ByName, Computed, search_after}
 use Rattle.inc_directive.specs.declared.kinds.DirectiveKind.TheVariants.{Foreign}
 use Rattle.inc_directive.specs.FileDirectives.{Directive}
@@ -23,7 +23,7 @@ use Rattle.inc_graph.specs.declared.graphs.Blocker.{Blocker}
 use Rattle.inc_graph.specs.declared.graphs.BlockerKind.TheVariants as kind
 use Rattle.inc_lookup.specs.declared.projects.Form.TheVariants as form
 use Rattle.inc_graph.specs.HeaderNames.{HeaderName, header_of}
-use Rattle.inc_graph.specs.IncludeGraph.{Edge, Named, Lead, Nowhere, To, Several, with_target, with_found, direct_header, named_place, found_by, leads, lead_entry, name_entry, undefined_place, text_definitions, entry_at, entry_of, entry_edge, entry_missing, entry_blocker, read_directives, graph_directives, entries_from, edges_from, missing_from, blockers_from}
+use Rattle.inc_graph.specs.IncludeGraph.{Edge, Named, Lead, Nowhere, To, Several, with_target, with_found, direct_header, named_place, found_by, leads, lead_entry, name_entry, undefined_place, text_definitions, entry_at, entry_of, entry_edge, entry_missing, entry_blocker, read_directives, graph_directives, entries_from, edges_from, missing_from, blockers_from, Start, found_so}
 use Rattle.inc_graph.specs.Entries.{entries_of, file_entries}
 use Rattle.inc_graph.specs.GraphLists.{State}
 
@@ -44,28 +44,28 @@ none_defined pick none [] = refl
 none_defined pick none (n ∷ ns) = ap (λ o. cons_option o (filter_map pick (map entry.Defines ns))) (none n) ∙ none_defined pick none ns
 
 picked_directives : {X : Type 0} (pick : ℕ → Entry → Option X) (file : ℕ) → ((n : ℕ) → pick file (entry.Defines n) ≡ None)
-    → (names : List (List ℕ)) (layout : Layout) (starts : List (Option ℕ)) (places : List ℕ) (r : Result (List Directive) FileFault)
-    → picked pick file (entries_of names layout starts file places r) ≡ filter_map (pick file) (filter_map (entry_of names layout starts file) (elim r [ Ok directives ↦ directives | Err fault ↦ [] ]))
-picked_directives pick file none names layout starts places (Ok directives) =
-    filter_map-append (pick file) (filter_map (entry_of names layout starts file) directives) (map entry.Defines places)
-    ∙ ap (λ l. filter_map (pick file) (filter_map (entry_of names layout starts file) directives) ++ l) (none_defined (pick file) none places)
-    ∙ append-nil (filter_map (pick file) (filter_map (entry_of names layout starts file) directives))
-picked_directives pick file none names layout starts places (Err fault) = refl
+    → (names : List (List ℕ)) (layouts : ℕ → Layout) (starts : List Start) (places : List ℕ) (r : Result (List Directive) FileFault)
+    → picked pick file (entries_of (entry_of names layouts starts file) places r) ≡ filter_map (pick file) (filter_map (entry_of names layouts starts file) (elim r [ Ok directives ↦ directives | Err fault ↦ [] ]))
+picked_directives pick file none names layouts starts places (Ok directives) =
+    filter_map-append (pick file) (filter_map (entry_of names layouts starts file) directives) (map entry.Defines places)
+    ∙ ap (λ l. filter_map (pick file) (filter_map (entry_of names layouts starts file) directives) ++ l) (none_defined (pick file) none places)
+    ∙ append-nil (filter_map (pick file) (filter_map (entry_of names layouts starts file) directives))
+picked_directives pick file none names layouts starts places (Err fault) = refl
 
 -- what a file's text defines
 abbrev definitions_of : Setting → Listing → ℕ → List ℕ
 definitions_of setting listing file = text_definitions setting (phase_text setting.language (bytes_at listing file))
 
-pub picked_edges : (setting : Setting) (listing : Listing) (starts : List (Option ℕ)) (file : ℕ) → picked entry_edge file (file_entries setting listing starts file) ≡ edges_from setting listing starts file
-picked_edges setting listing starts file = picked_directives entry_edge file (λ n. refl) setting.undefined (layout_of listing) starts (definitions_of setting listing file) (read_directives setting listing file)
+pub picked_edges : (setting : Setting) (listing : Listing) (starts : List Start) (file : ℕ) → picked entry_edge file (file_entries setting listing starts file) ≡ edges_from setting listing starts file
+picked_edges setting listing starts file = picked_directives entry_edge file (λ n. refl) setting.undefined (layouts_of setting listing) starts (definitions_of setting listing file) (read_directives setting listing file)
 
-pub picked_missing : (setting : Setting) (listing : Listing) (starts : List (Option ℕ)) (file : ℕ) → picked entry_missing file (file_entries setting listing starts file) ≡ missing_from setting listing starts file
-picked_missing setting listing starts file = picked_directives entry_missing file (λ n. refl) setting.undefined (layout_of listing) starts (definitions_of setting listing file) (read_directives setting listing file)
+pub picked_missing : (setting : Setting) (listing : Listing) (starts : List Start) (file : ℕ) → picked entry_missing file (file_entries setting listing starts file) ≡ missing_from setting listing starts file
+picked_missing setting listing starts file = picked_directives entry_missing file (λ n. refl) setting.undefined (layouts_of setting listing) starts (definitions_of setting listing file) (read_directives setting listing file)
 
-pub picked_blockers : (setting : Setting) (listing : Listing) (defined : ℕ → Bool) (starts : List (Option ℕ)) (file : ℕ)
+pub picked_blockers : (setting : Setting) (listing : Listing) (defined : ℕ → Bool) (starts : List Start) (file : ℕ)
     → picked (entry_blocker defined) file (file_entries setting listing starts file) ≡ blockers_from setting listing defined starts file
 picked_blockers setting listing defined starts file =
-    picked_directives (entry_blocker defined) file (λ n. refl) setting.undefined (layout_of listing) starts (definitions_of setting listing file) (read_directives setting listing file)
+    picked_directives (entry_blocker defined) file (λ n. refl) setting.undefined (layouts_of setting listing) starts (definitions_of setting listing file) (read_directives setting listing file)
 
 -- an include directive, and no definition
 abbrev pub included : Entry → Option Entry
@@ -90,19 +90,19 @@ one_included names lead (Include by Computed) line es = refl
 one_included names lead (Other Foreign) line es = refl
 one_included names lead _ line es = refl
 
-all_included : (names : List (List ℕ)) (layout : Layout) (starts : List (Option ℕ)) (file : ℕ) (ds : List Directive)
-    → filter_map included (filter_map (entry_of names layout starts file) ds) ≡ filter_map (entry_of names layout starts file) ds
-all_included names layout starts file [] = refl
-all_included names layout starts file (d ∷ ds) =
-    one_included names (leads layout starts file d) d.kind d.line (filter_map (entry_of names layout starts file) ds)
-    ∙ ap (cons_option (entry_of names layout starts file d)) (all_included names layout starts file ds)
+all_included : (names : List (List ℕ)) (layouts : ℕ → Layout) (starts : List Start) (file : ℕ) (ds : List Directive)
+    → filter_map included (filter_map (entry_of names layouts starts file) ds) ≡ filter_map (entry_of names layouts starts file) ds
+all_included names layouts starts file [] = refl
+all_included names layouts starts file (d ∷ ds) =
+    one_included names (leads layouts starts file d) d.kind d.line (filter_map (entry_of names layouts starts file) ds)
+    ∙ ap (cons_option (entry_of names layouts starts file d)) (all_included names layouts starts file ds)
 
 -- those of a file are all of its include directives
-pub picked_included : (setting : Setting) (listing : Listing) (starts : List (Option ℕ)) (file : ℕ)
+pub picked_included : (setting : Setting) (listing : Listing) (starts : List Start) (file : ℕ)
     → picked (λ f. included) file (file_entries setting listing starts file) ≡ entries_from setting listing starts file
 picked_included setting listing starts file =
-    picked_directives (λ f. included) file (λ n. refl) setting.undefined (layout_of listing) starts (definitions_of setting listing file) (read_directives setting listing file)
-    ∙ all_included setting.undefined (layout_of listing) starts file (graph_directives setting listing file)
+    picked_directives (λ f. included) file (λ n. refl) setting.undefined (layouts_of setting listing) starts (definitions_of setting listing file) (read_directives setting listing file)
+    ∙ all_included setting.undefined (layouts_of setting listing) starts file (graph_directives setting listing file)
 
 ---- edges lead to files of the project
 
@@ -155,11 +155,15 @@ pub named_within : (layout : Layout) (at : Found) (o : Option Named) (t : Found)
 named_within layout at None t e = cc
 named_within layout at (Some h) t e = among_within layout.paths (candidates layout.dirs (path_at layout at.file) h.form (search_after h.by at.next) h.name) t e
 
-lead_within : (layout : Layout) (starts : List (Option ℕ)) (file : ℕ) (d : Directive) → LeadsBy (λ to. to < length layout.paths) (leads layout starts file d)
-lead_within layout [] file d = tt
-lead_within layout (next ∷ starts) file d =
-    found_leads (λ to. to < length layout.paths) (found_by layout (record { file = file; next = next }) d) (leads layout starts file d)
-    (λ t e. named_within layout (record { file = file; next = next }) (direct_header d.kind) t e) (lead_within layout starts file d)
+-- every include path is one of the same files
+pub same_paths : (others : List (List (List ℕ))) (layout : Layout) (path : ℕ) → (layout_in others layout path).paths ≡ layout.paths
+same_paths others layout path = refl
+
+lead_within : (files : ℕ) (layouts : ℕ → Layout) → ((path : ℕ) → length (layouts path).paths ≡ files) → (starts : List Start) (file : ℕ) (d : Directive) → LeadsBy (λ to. to < files) (leads layouts starts file d)
+lead_within files layouts same [] file d = tt
+lead_within files layouts same (start ∷ starts) file d =
+    found_leads (λ to. to < files) (found_by (layouts start.path) (found_so file start) d) (leads layouts starts file d)
+    (λ t e. let low = named_within (layouts start.path) (found_so file start) (direct_header d.kind) t e in omega (arith, low, same start.path)) (lead_within files layouts same starts file d)
 
 direct_leads : (hn : HeaderName) (P : ℕ → Type 0) (lead : Lead) (line : ℕ) → LeadsBy P lead → Leads P (lead_entry lead line hn)
 direct_leads hn P Nowhere line h = tt
@@ -190,22 +194,23 @@ defined_lead : (P : ℕ → Type 0) (ns : List ℕ) → All (Leads P) (map entry
 defined_lead P [] = All-nil (Leads P)
 defined_lead P (n ∷ ns) = All-cons (Leads P) (entry.Defines n) (map entry.Defines ns) tt (defined_lead P ns)
 
-leads_of_directives : (names : List (List ℕ)) (layout : Layout) (starts : List (Option ℕ)) (file : ℕ) (places : List ℕ) (r : Result (List Directive) FileFault) (es : List Entry)
-    → entries_of names layout starts file places r ≡ Ok es → All (Leads (λ to. to < length layout.paths)) es
-leads_of_directives names layout starts file places (Ok directives) es e =
-    let same : filter_map (entry_of names layout starts file) directives ++ map entry.Defines places ≡ es = cc in
-    subst (All (Leads (λ to. to < length layout.paths))) same
-    (All-append (Leads (λ to. to < length layout.paths)) (filter_map (entry_of names layout starts file) directives) (map entry.Defines places)
-    (All-filter_map (Leads (λ to. to < length layout.paths)) (entry_of names layout starts file)
-    (λ d. entry_leads (λ to. to < length layout.paths) names (leads layout starts file d) d.kind d.line (lead_within layout starts file d)) directives)
-    (defined_lead (λ to. to < length layout.paths) places))
-leads_of_directives names layout starts file places (Err fault) es e = cc
+leads_of_directives : (names : List (List ℕ)) (files : ℕ) (layouts : ℕ → Layout) → ((path : ℕ) → length (layouts path).paths ≡ files) → (starts : List Start) (file : ℕ) (places : List ℕ) (r : Result (List Directive) FileFault) (es : List Entry)
+    → entries_of (entry_of names layouts starts file) places r ≡ Ok es → All (Leads (λ to. to < files)) es
+leads_of_directives names files layouts paths starts file places (Ok directives) es e =
+    let same : filter_map (entry_of names layouts starts file) directives ++ map entry.Defines places ≡ es = cc in
+    subst (All (Leads (λ to. to < files))) same
+    (All-append (Leads (λ to. to < files)) (filter_map (entry_of names layouts starts file) directives) (map entry.Defines places)
+    (All-filter_map (Leads (λ to. to < files)) (entry_of names layouts starts file)
+    (λ d. entry_leads (λ to. to < files) names (leads layouts starts file d) d.kind d.line (lead_within files layouts paths starts file d)) directives)
+    (defined_lead (λ to. to < files) places))
+leads_of_directives names files layouts paths starts file places (Err fault) es e = cc
 
-pub entries_lead_within : (setting : Setting) (listing : Listing) (starts : List (Option ℕ)) (file : ℕ) (es : List Entry) → file_entries setting listing starts file ≡ Ok es
+pub entries_lead_within : (setting : Setting) (listing : Listing) (starts : List Start) (file : ℕ) (es : List Entry) → file_entries setting listing starts file ≡ Ok es
     → All (Leads (λ to. to < length listing.files)) es
 entries_lead_within setting listing starts file es e =
-    let P : ℕ → Type 0 = λ n. All (Leads (λ to. to < n)) es in
-    subst P (length-map listing.files (λ (x : File). x.path)) (leads_of_directives setting.undefined (layout_of listing) starts file (definitions_of setting listing file) (read_directives setting listing file) es e)
+    let paths : (path : ℕ) → length (layouts_of setting listing path).paths ≡ length listing.files =
+    λ path. ap (λ ps. length ps) (same_paths setting.others (layout_of listing) path) ∙ length-map listing.files (λ (x : File). x.path) in
+    leads_of_directives setting.undefined (length listing.files) (layouts_of setting listing) paths starts file (definitions_of setting listing file) (read_directives setting listing file) es e
 
 ---- each is in its file
 
@@ -230,15 +235,15 @@ blocker_in defined file (entry.ByName name line) = by (defined name)
     by false = tt
 blocker_in defined file _ = tt
 
-pub edges_leave : (setting : Setting) (listing : Listing) (starts : List (Option ℕ)) (file : ℕ) → All (λ (e : Edge). e.from ≡ file) (edges_from setting listing starts file)
+pub edges_leave : (setting : Setting) (listing : Listing) (starts : List Start) (file : ℕ) → All (λ (e : Edge). e.from ≡ file) (edges_from setting listing starts file)
 edges_leave setting listing starts file =
     subst (λ es. All (λ (e : Edge). e.from ≡ file) es) (picked_edges setting listing starts file) (picked_in (λ (e : Edge). e.from) entry_edge edge_in file (file_entries setting listing starts file))
 
-pub missing_stand : (setting : Setting) (listing : Listing) (starts : List (Option ℕ)) (file : ℕ) → All (λ (d : Missing). d.file ≡ file) (missing_from setting listing starts file)
+pub missing_stand : (setting : Setting) (listing : Listing) (starts : List Start) (file : ℕ) → All (λ (d : Missing). d.file ≡ file) (missing_from setting listing starts file)
 missing_stand setting listing starts file =
     subst (λ ds. All (λ (d : Missing). d.file ≡ file) ds) (picked_missing setting listing starts file) (picked_in (λ (d : Missing). d.file) entry_missing missing_in file (file_entries setting listing starts file))
 
-pub blockers_stand : (setting : Setting) (listing : Listing) (defined : ℕ → Bool) (starts : List (Option ℕ)) (file : ℕ) → All (λ (b : Blocker). b.file ≡ file) (blockers_from setting listing defined starts file)
+pub blockers_stand : (setting : Setting) (listing : Listing) (defined : ℕ → Bool) (starts : List Start) (file : ℕ) → All (λ (b : Blocker). b.file ≡ file) (blockers_from setting listing defined starts file)
 blockers_stand setting listing defined starts file =
     subst (λ bs. All (λ (b : Blocker). b.file ≡ file) bs) (picked_blockers setting listing defined starts file)
     (picked_in (λ (b : Blocker). b.file) (entry_blocker defined) (blocker_in defined) file (file_entries setting listing starts file))

@@ -12,9 +12,9 @@ use Rattle.inc_lookup.specs.Projects.{Layout}
 use Rattle.inc_graph.specs.FileEntries.{Entry}
 use Rattle.inc_graph.specs.declared.building.entries.Entry.TheVariants as entry
 use Rattle.inc_lookup.specs.declared.projects.Found.{Found}
-use Rattle.inc_graph.specs.IncludeGraph.{Lead, direct_header, named_place, found_by, leads, entry_at, entry_of, text_definitions, text_directives}
-use Rattle.inc_graph.specs.Entries.{entries_of, bytes_entries, directives_found, bytes_found}
-use Rattle.inc_graph.specs.Nexts.{Next, next_of, entry_count, nexts_from, nexts_of, bytes_nexts}
+use Rattle.inc_graph.specs.IncludeGraph.{Lead, direct_header, named_place, found_by, entry_at, text_definitions, text_directives}
+use Rattle.inc_graph.specs.Entries.{entries_of, entry_alone, found_lead, bytes_entries, directives_found, bytes_found}
+use Rattle.inc_graph.specs.Nexts.{Direct, Next, bytes_directs, direct_at, directs_from, directs_of, next_of, entry_count, nexts_from, nexts_of, bytes_nexts}
 use Rattle.inc_graph.specs.Places.{Reaches}
 use Rattle.inc_directive.specs.declared.files.FileFault.{FileFault}
 use Rattle.inc_graph.specs.Settings.{Setting}
@@ -86,12 +86,12 @@ module _ (setting : Setting) (layout : Layout) (at : Found) (bytes : List ℕ) (
   read = ap (λ r. without (is_listed setting.removed at.file) r) (ap (file_directives setting.language) (sym spliced) ∙ found)
 
   -- what is kept of a file, by its directives that include
-  pub entries_read : (es : List Entry) (places : List ℕ) → es ≡ filter_map (entry_of setting.undefined layout (at.next ∷ []) at.file) (filter (stays (is_listed setting.removed at.file)) (filter is_inclusion ds))
-      → places ≡ text_definitions setting (phase_text setting.language bytes) → bytes_entries setting layout (at.next ∷ []) at.file bytes ≡ Ok (es ++ map entry.Defines places)
+  pub entries_read : (es : List Entry) (places : List ℕ) → es ≡ filter_map (entry_alone setting.undefined layout at) (filter (stays (is_listed setting.removed at.file)) (filter is_inclusion ds))
+      → places ≡ text_definitions setting (phase_text setting.language bytes) → bytes_entries setting (entry_alone setting.undefined layout at) at.file bytes ≡ Ok (es ++ map entry.Defines places)
   entries_read es places kept defined =
-      ap (entries_of setting.undefined layout (at.next ∷ []) at.file (text_definitions setting (phase_text setting.language bytes))) read
-      ∙ ap (λ (ks : List ℕ). Ok (filter_map (entry_of setting.undefined layout (at.next ∷ []) at.file) (filter (stays (is_listed setting.removed at.file)) ds) ++ map entry.Defines ks)) (sym defined)
-      ∙ ap (λ (l : List Entry). Ok (l ++ map entry.Defines places)) (sym (kept ∙ alone (entry_of setting.undefined layout (at.next ∷ []) at.file) (λ d e. no_entry setting.undefined (leads layout (at.next ∷ []) at.file d) d.kind d.line e) (stays (is_listed setting.removed at.file)) ds))
+      ap (entries_of (entry_alone setting.undefined layout at) (text_definitions setting (phase_text setting.language bytes))) read
+      ∙ ap (λ (ks : List ℕ). Ok (filter_map (entry_alone setting.undefined layout at) (filter (stays (is_listed setting.removed at.file)) ds) ++ map entry.Defines ks)) (sym defined)
+      ∙ ap (λ (l : List Entry). Ok (l ++ map entry.Defines places)) (sym (kept ∙ alone (entry_alone setting.undefined layout at) (λ d e. no_entry setting.undefined (found_lead (found_by layout at d)) d.kind d.line e) (stays (is_listed setting.removed at.file)) ds))
 
   -- what they find
   pub found_read : (old new : List Found) → Reaches old (filter_map (found_by layout at) (filter (stays (is_listed setting.removed at.file)) (filter is_inclusion ds))) new
@@ -104,12 +104,56 @@ module _ (setting : Setting) (layout : Layout) (at : Found) (bytes : List ℕ) (
   pub nexts_read : (ns : List Next) → ns ≡ nexts_from layout at.file 0 (filter (stays (is_listed setting.removed at.file)) (filter is_inclusion ds)) → ns ≡ bytes_nexts setting layout at.file bytes
   nexts_read ns kept = kept ∙ nexts_alone layout at.file (stays (is_listed setting.removed at.file)) ds 0 ∙ sym (ap (nexts_of layout at.file) read)
 
--- a bad file finds nothing
-bad_finds : (names : List (List ℕ)) (layout : Layout) (starts : List (Option ℕ)) (at : Found) (places : List ℕ) (r : Result (List Directive) FileFault) (bad : FileFault) → Some (Err bad) ≡ Some (entries_of names layout starts at.file places r) → directives_found layout at r ≡ []
-bad_finds names layout starts at places (Ok ds) bad is = cc
-bad_finds names layout starts at places (Err fault) bad is = refl
+---- direct include directives
 
-pub bad_read : (setting : Setting) (layout : Layout) (starts : List (Option ℕ)) (at : Found) (bytes : List ℕ) (bad : FileFault) (old : List Found)
-    → Some (Err bad) ≡ Some (bytes_entries setting layout starts at.file bytes) → Reaches old (bytes_found setting layout at bytes) old
-bad_read setting layout starts at bytes bad old is =
-    subst (λ (l : List Found). Reaches old l old) (sym (bad_finds setting.undefined layout starts at (text_definitions setting (phase_text setting.language bytes)) (text_directives setting at.file (phase_text setting.language bytes)) bad is)) (reaches_none old)
+no_direct : (i : ℕ) (k : LineKind) → is_removable k ≡ false → (direct_at i k ≡ []) × (entry_count k ≡ 0)
+no_direct i (Include by target) e = cc
+no_direct i (Other Foreign) e = cc
+no_direct i _ e = (refl, refl)
+
+one_direct : (stays : Directive → Bool) (d : Directive) (ds included : List Directive) (i : ℕ) (includes : Bool) → is_inclusion d ≡ includes
+    → ((j : ℕ) → directs_from j (filter stays included) ≡ directs_from j (filter stays ds))
+    → directs_from i (filter stays (if includes then d ∷ included else included)) ≡ directs_from i (filter stays (d ∷ ds))
+one_direct stays d ds included i true e same = by_stay (stays d)
+  where
+    by_stay : (s : Bool) → directs_from i (if s then d ∷ filter stays included else filter stays included) ≡ directs_from i (if s then d ∷ filter stays ds else filter stays ds)
+    by_stay true = ap (λ (l : List Direct). direct_at i d.kind ++ l) (same (i + entry_count d.kind))
+    by_stay false = same i
+one_direct stays d ds included i false e same = by_stay (stays d)
+  where
+    by_stay : (s : Bool) → directs_from i (filter stays included) ≡ directs_from i (if s then d ∷ filter stays ds else filter stays ds)
+    by_stay true =
+        let none = no_direct i d.kind e in
+        same i
+        ∙ ap (λ (n : ℕ). directs_from n (filter stays ds)) (sym (ap (λ (n : ℕ). i + n) none.1 ∙ zero_more i))
+        ∙ ap (λ (l : List Direct). l ++ directs_from (i + entry_count d.kind) (filter stays ds)) (sym none.0)
+    by_stay false = same i
+
+directs_alone : (stays : Directive → Bool) (ds : List Directive) (i : ℕ) → directs_from i (filter stays (filter is_inclusion ds)) ≡ directs_from i (filter stays ds)
+directs_alone stays [] i = refl
+directs_alone stays (d ∷ ds) i = one_direct stays d ds (filter is_inclusion ds) i (is_inclusion d) refl (λ j. directs_alone stays ds j)
+
+pub directs_read : (setting : Setting) (file : ℕ) (bytes : List ℕ) (text : List Cell) (ds : List Directive) → text ≡ phase_text setting.language bytes → file_directives setting.language text ≡ Ok ds
+    → (directs : List Direct) → directs ≡ directs_from 0 (filter (stays (is_listed setting.removed file)) (filter is_inclusion ds)) → directs ≡ bytes_directs setting file bytes
+directs_read setting file bytes text ds spliced found directs kept =
+    kept ∙ directs_alone (stays (is_listed setting.removed file)) ds 0
+    ∙ sym (ap directs_of (ap (λ r. without (is_listed setting.removed file) r) (ap (file_directives setting.language) (sym spliced) ∙ found)))
+
+---- a bad file
+
+-- a bad file finds nothing
+bad_finds : (what : Directive → Option Entry) (layout : Layout) (at : Found) (places : List ℕ) (r : Result (List Directive) FileFault) (bad : FileFault) → Some (Err bad) ≡ Some (entries_of what places r)
+    → (directives_found layout at r ≡ []) × (directs_of r ≡ [])
+bad_finds what layout at places (Ok ds) bad is = cc
+bad_finds what layout at places (Err fault) bad is = (refl, refl)
+
+pub bad_read : (setting : Setting) (what : Directive → Option Entry) (layout : Layout) (at : Found) (bytes : List ℕ) (bad : FileFault) (old : List Found)
+    → Some (Err bad) ≡ Some (bytes_entries setting what at.file bytes) → Reaches old (bytes_found setting layout at bytes) old
+bad_read setting what layout at bytes bad old is =
+    subst (λ (l : List Found). Reaches old l old) (sym (bad_finds what layout at (text_definitions setting (phase_text setting.language bytes)) (text_directives setting at.file (phase_text setting.language bytes)) bad is).0) (reaches_none old)
+
+-- and has no direct include directive
+pub bad_directs : (setting : Setting) (what : Directive → Option Entry) (layout : Layout) (at : Found) (bytes : List ℕ) (bad : FileFault)
+    → Some (Err bad) ≡ Some (bytes_entries setting what at.file bytes) → bytes_directs setting at.file bytes ≡ []
+bad_directs setting what layout at bytes bad is =
+    (bad_finds what layout at (text_definitions setting (phase_text setting.language bytes)) (text_directives setting at.file (phase_text setting.language bytes)) bad is).1

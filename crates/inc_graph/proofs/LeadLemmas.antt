@@ -7,16 +7,16 @@ use Rattle.std.proofs.lemmas.List.Elements.{Contains-append_cases, Contains-appe
 use Rattle.std.proofs.lemmas.Option.{none-some, same_Some}
 use Rattle.inc_directive.specs.FileDirectives.{Directive}
 use Rattle.inc_lookup.specs.declared.projects.Found.{Found}
-use Rattle.inc_lookup.specs.Projects.{Layout, Listing, layout_of}
+use Rattle.inc_lookup.specs.Projects.{Layout, Listing}
 use Rattle.inc_directive.specs.LineKinds.{LineKind, Include, Other, Text, Quoted, Angled, ByName, Computed, Nothing}
 use Rattle.inc_directive.specs.declared.kinds.DirectiveKind.TheVariants.{Foreign}
-use Rattle.inc_graph.specs.Settings.{Setting}
+use Rattle.inc_graph.specs.Settings.{Setting, layouts_of}
 use Rattle.inc_graph.specs.FileEntries.{Entry}
 use Rattle.inc_graph.specs.declared.building.entries.Entry.TheVariants as entry
 use Rattle.inc_graph.specs.declared.graphs.BlockerKind.TheVariants as kind
 use Rattle.inc_lookup.specs.declared.projects.Form.TheVariants as form
 use Rattle.inc_graph.specs.HeaderNames.{HeaderName, header_of}
-use Rattle.inc_graph.specs.IncludeGraph.{Edge, Lead, Nowhere, To, Several, with_target, with_found, direct_header, named_place, found_by, leads, lead_entry, name_entry, undefined_place, entry_at, entry_of, entry_edge, entry_blocker, entries_from, edges_from, blockers_from, graph_directives}
+use Rattle.inc_graph.specs.IncludeGraph.{Edge, Lead, Nowhere, To, Several, with_target, with_found, direct_header, named_place, found_by, leads, lead_entry, name_entry, undefined_place, entry_at, entry_of, entry_edge, entry_blocker, entries_from, edges_from, blockers_from, graph_directives, Start, found_so}
 
 -- an element of a longer list
 pub contains_first : {X : Type 0} (x : X) (xs : List X) → Contains (x ∷ xs) x
@@ -81,40 +81,40 @@ found_twice (Some f) lead = target_twice lead f.file
 
 ---- what it means that a directive leads somewhere
 
-module _ (find : Option ℕ → Option Found) where
+module _ (find : Start → Option Found) where
   -- it finds this file where its own is found so
-  record Finds (starts : List (Option ℕ)) (file : ℕ) : Type 0 where
-    start : Option ℕ
+  record Finds (starts : List Start) (file : ℕ) : Type 0 where
+    start : Start
     among : Contains starts start
     found : Found
     is : find start ≡ Some found
     same : found.file ≡ file
 
   -- two that are not one
-  record FindsTwo (starts : List (Option ℕ)) : Type 0 where
+  record FindsTwo (starts : List Start) : Type 0 where
     one : ℕ
     other : ℕ
     finds_one : Finds starts one
     finds_other : Finds starts other
     differ : one ≢ other
 
-  abbrev IsLead : Lead → List (Option ℕ) → Type 0
-  IsLead Nowhere starts = (s : Option ℕ) → Contains starts s → find s ≡ None
-  IsLead (To f) starts = Finds starts f × ((s : Option ℕ) (g : Found) → Contains starts s → find s ≡ Some g → g.file ≡ f)
+  abbrev IsLead : Lead → List Start → Type 0
+  IsLead Nowhere starts = (s : Start) → Contains starts s → find s ≡ None
+  IsLead (To f) starts = Finds starts f × ((s : Start) (g : Found) → Contains starts s → find s ≡ Some g → g.file ≡ f)
   IsLead Several starts = FindsTwo starts
 
   -- as leads, of any test
-  abbrev all_leads : List (Option ℕ) → Lead
+  abbrev all_leads : List Start → Lead
   all_leads [] = Nowhere
   all_leads (s ∷ starts) = with_found (find s) (all_leads starts)
 
-  finds_later : (s : Option ℕ) (starts : List (Option ℕ)) (f : ℕ) → Finds starts f → Finds (s ∷ starts) f
+  finds_later : (s : Start) (starts : List Start) (f : ℕ) → Finds starts f → Finds (s ∷ starts) f
   finds_later s starts f x = record { start = x.start; among = contains_later s starts x.start x.among; found = x.found; is = x.is; same = x.same }
 
-  finds_here : (s : Option ℕ) (starts : List (Option ℕ)) (g : Found) → find s ≡ Some g → Finds (s ∷ starts) g.file
+  finds_here : (s : Start) (starts : List Start) (g : Found) → find s ≡ Some g → Finds (s ∷ starts) g.file
   finds_here s starts g is = record { start = s; among = contains_first s starts; found = g; is = is; same = refl }
 
-  lead_more : (s : Option ℕ) (starts : List (Option ℕ)) (o : Option Found) → find s ≡ o → (lead : Lead) → IsLead lead starts → IsLead (with_found o lead) (s ∷ starts)
+  lead_more : (s : Start) (starts : List Start) (o : Option Found) → find s ≡ o → (lead : Lead) → IsLead lead starts → IsLead (with_found o lead) (s ∷ starts)
   lead_more s starts None e Nowhere h = λ t c. elim (contains_cases s starts t c) [
     | inl is ↦ ap find (sym is) ∙ e
     | inr later ↦ h t later
@@ -147,20 +147,20 @@ module _ (find : Option ℕ → Option Found) where
       by_test false differ = record { one = f; other = g.file; finds_one = finds_later s starts f h.0; finds_other = finds_here s starts g e; differ = eqb-false f g.file differ }
   lead_more s starts (Some g) e Several h = record { one = h.one; other = h.other; finds_one = finds_later s starts h.one h.finds_one; finds_other = finds_later s starts h.other h.finds_other; differ = h.differ }
 
-  is_lead : (starts : List (Option ℕ)) → IsLead (all_leads starts) starts
+  is_lead : (starts : List Start) → IsLead (all_leads starts) starts
   is_lead [] = λ s c. absurd (contains_nothing s c)
   is_lead (s ∷ starts) = lead_more s starts (find s) refl (all_leads starts) (is_lead starts)
 
-  finds_in : (a b : List (Option ℕ)) → ((s : Option ℕ) → Contains a s → Contains b s) → (f : ℕ) → Finds a f → Finds b f
+  finds_in : (a b : List Start) → ((s : Start) → Contains a s → Contains b s) → (f : ℕ) → Finds a f → Finds b f
   finds_in a b to f x = record { start = x.start; among = to x.start x.among; found = x.found; is = x.is; same = x.same }
 
-  only_one : (starts : List (Option ℕ)) (f g : ℕ) → IsLead (To f) starts → Finds starts g → g ≡ f
+  only_one : (starts : List Start) (f g : ℕ) → IsLead (To f) starts → Finds starts g → g ≡ f
   only_one starts f g h x = sym x.same ∙ h.1 x.start x.found x.among x.is
 
-  nothing_found : (starts : List (Option ℕ)) (g : ℕ) → IsLead Nowhere starts → Finds starts g → ⊥
+  nothing_found : (starts : List Start) (g : ℕ) → IsLead Nowhere starts → Finds starts g → ⊥
   nothing_found starts g h x = none-some x.found (sym (h x.start x.among) ∙ x.is)
 
-  one_lead : (a b : List (Option ℕ)) (x y : Lead) → ((s : Option ℕ) → Contains a s → Contains b s) → ((s : Option ℕ) → Contains b s → Contains a s) → IsLead x a → IsLead y b → x ≡ y
+  one_lead : (a b : List Start) (x y : Lead) → ((s : Start) → Contains a s → Contains b s) → ((s : Start) → Contains b s → Contains a s) → IsLead x a → IsLead y b → x ≡ y
   one_lead a b Nowhere Nowhere to from h k = refl
   one_lead a b Nowhere (To g) to from h k = absurd (nothing_found a g h (finds_in b a from g k.0))
   one_lead a b Nowhere Several to from h k = absurd (nothing_found a k.one h (finds_in b a from k.one k.finds_one))
@@ -174,42 +174,51 @@ module _ (find : Option ℕ → Option Found) where
   one_lead a b Several Several to from h k = refl
 
   -- what one way finds is the one file
-  lead_to : (starts : List (Option ℕ)) (lead : Lead) → IsLead lead starts → (s : Option ℕ) (g : Found) → Contains starts s → find s ≡ Some g → lead ≢ Several → lead ≡ To g.file
+  lead_to : (starts : List Start) (lead : Lead) → IsLead lead starts → (s : Start) (g : Found) → Contains starts s → find s ≡ Some g → lead ≢ Several → lead ≡ To g.file
   lead_to starts Nowhere h s g c is other = absurd (none-some g (sym (h s c) ∙ is))
   lead_to starts (To f) h s g c is other = ap To (sym (h.1 s g c is))
   lead_to starts Several h s g c is other = absurd (other refl)
 
   -- the one file is found
-  lead_from : (starts : List (Option ℕ)) (f : ℕ) (lead : Lead) → IsLead lead starts → lead ≡ To f → Finds starts f
+  lead_from : (starts : List Start) (f : ℕ) (lead : Lead) → IsLead lead starts → lead ≡ To f → Finds starts f
   lead_from starts f lead h is = (subst (λ (x : Lead). IsLead x starts) is h).0
 
 ---- of a directive
 
-abbrev at_start : Layout → ℕ → Directive → Option ℕ → Option Found
-at_start layout file d next = found_by layout (record { file = file; next = next }) d
+abbrev pub at_start : (layouts : ℕ → Layout) → ℕ → Directive → Start → Option Found
+at_start layouts file d start = found_by (layouts start.path) (found_so file start) d
 
-leads_are : (layout : Layout) (starts : List (Option ℕ)) (file : ℕ) (d : Directive) → all_leads (at_start layout file d) starts ≡ leads layout starts file d
-leads_are layout [] file d = refl
-leads_are layout (next ∷ starts) file d = ap (with_found (found_by layout (record { file = file; next = next }) d)) (leads_are layout starts file d)
+leads_are : (layouts : ℕ → Layout) (starts : List Start) (file : ℕ) (d : Directive) → all_leads (at_start layouts file d) starts ≡ leads layouts starts file d
+leads_are layouts [] file d = refl
+leads_are layouts (start ∷ starts) file d = ap (with_found (at_start layouts file d start)) (leads_are layouts starts file d)
 
-lead_of : (layout : Layout) (starts : List (Option ℕ)) (file : ℕ) (d : Directive) → IsLead (at_start layout file d) (leads layout starts file d) starts
-lead_of layout starts file d = subst (λ (x : Lead). IsLead (at_start layout file d) x starts) (leads_are layout starts file d) (is_lead (at_start layout file d) starts)
+lead_of : (layouts : ℕ → Layout) (starts : List Start) (file : ℕ) (d : Directive) → IsLead (at_start layouts file d) (leads layouts starts file d) starts
+lead_of layouts starts file d = subst (λ (x : Lead). IsLead (at_start layouts file d) x starts) (leads_are layouts starts file d) (is_lead (at_start layouts file d) starts)
 
 -- two lists of the same ways
-pub same_leads : (layout : Layout) (a b : List (Option ℕ)) (file : ℕ) (d : Directive) → ((s : Option ℕ) → Contains a s → Contains b s) → ((s : Option ℕ) → Contains b s → Contains a s)
-    → leads layout a file d ≡ leads layout b file d
-same_leads layout a b file d to from = one_lead (at_start layout file d) a b _ _ to from (lead_of layout a file d) (lead_of layout b file d)
+pub same_leads : (layouts : ℕ → Layout) (a b : List Start) (file : ℕ) (d : Directive) → ((s : Start) → Contains a s → Contains b s) → ((s : Start) → Contains b s → Contains a s)
+    → leads layouts a file d ≡ leads layouts b file d
+same_leads layouts a b file d to from = one_lead (at_start layouts file d) a b _ _ to from (lead_of layouts a file d) (lead_of layouts b file d)
+
+-- a way in which it finds what it finds in another one changes nothing
+pub leads_steady : (layouts : ℕ → Layout) (s t : Start) (starts : List Start) (file : ℕ) (d : Directive) → Contains starts t → at_start layouts file d s ≡ at_start layouts file d t
+    → leads layouts (s ∷ starts) file d ≡ leads layouts starts file d
+leads_steady layouts s t starts file d c same =
+    ap (λ (o : Option Found). with_found o (leads layouts starts file d)) same
+    ∙ same_leads layouts (t ∷ starts) starts file d
+    (λ u e. elim (contains_cases t starts u e) [ inl is ↦ subst (λ (x : Start). Contains starts x) is c | inr later ↦ later ])
+    (λ u e. contains_later t starts u e)
 
 -- a directive that leads to at most one file leads to what it finds in any way
-pub leads_to : (layout : Layout) (starts : List (Option ℕ)) (file : ℕ) (d : Directive) (next : Option ℕ) (found : Found) → Contains starts next
-    → found_by layout (record { file = file; next = next }) d ≡ Some found → leads layout starts file d ≢ Several → leads layout starts file d ≡ To found.file
-leads_to layout starts file d next found c is other = lead_to (at_start layout file d) starts (leads layout starts file d) (lead_of layout starts file d) next found c is other
+pub leads_to : (layouts : ℕ → Layout) (starts : List Start) (file : ℕ) (d : Directive) (start : Start) (found : Found) → Contains starts start
+    → at_start layouts file d start ≡ Some found → leads layouts starts file d ≢ Several → leads layouts starts file d ≡ To found.file
+leads_to layouts starts file d start found c is other = lead_to (at_start layouts file d) starts (leads layouts starts file d) (lead_of layouts starts file d) start found c is other
 
 -- where a directive leads to one file it finds that in some way
-pub leads_from : (layout : Layout) (starts : List (Option ℕ)) (file : ℕ) (d : Directive) (to : ℕ) → leads layout starts file d ≡ To to
-    → (next : Option ℕ) × Contains starts next × ((after : Option ℕ) × (found_by layout (record { file = file; next = next }) d ≡ Some (record { file = to; next = after })))
-leads_from layout starts file d to is =
-    let x = lead_from (at_start layout file d) starts to (leads layout starts file d) (lead_of layout starts file d) is in
+pub leads_from : (layouts : ℕ → Layout) (starts : List Start) (file : ℕ) (d : Directive) (to : ℕ) → leads layouts starts file d ≡ To to
+    → (start : Start) × Contains starts start × ((after : Option ℕ) × (at_start layouts file d start ≡ Some (record { file = to; next = after })))
+leads_from layouts starts file d to is =
+    let x = lead_from (at_start layouts file d) starts to (leads layouts starts file d) (lead_of layouts starts file d) is in
     (x.start, x.among, (x.found.next, x.is ∙ ap (λ (f : ℕ). Some (record { file = f; next = x.found.next })) x.same))
 
 -- the header that a direct include directive names
@@ -247,31 +256,45 @@ edge_lead names lead (Include how Computed) line to at is = cc
 edge_lead names lead (Other Foreign) line to at is = cc
 edge_lead names lead _ line to at is = absurd (none-some (entry.Edge to at) is)
 
+-- and the line is that of the directive
+line_of_edge : (hn : HeaderName) (lead : Lead) (line to at : ℕ) → Some (lead_entry lead line hn) ≡ Some (entry.Edge to at) → line ≡ at
+line_of_edge hn Nowhere line to at is = cc
+line_of_edge hn (To t) line to at is = cc
+line_of_edge hn Several line to at is = cc
+
+edge_line : (names : List (List ℕ)) (lead : Lead) (k : LineKind) (line to at : ℕ) → entry_at names lead k line ≡ Some (entry.Edge to at) → line ≡ at
+edge_line names lead (Include how (Quoted name)) line to at is = line_of_edge (header_of form.Quoted name) lead line to at is
+edge_line names lead (Include how (Angled name)) line to at is = line_of_edge (header_of form.Angled name) lead line to at is
+edge_line names lead (Include how (ByName name)) line to at is = absurd (edge_by_name (undefined_place names name) line to at is)
+edge_line names lead (Include how Computed) line to at is = cc
+edge_line names lead (Other Foreign) line to at is = cc
+edge_line names lead _ line to at is = absurd (none-some (entry.Edge to at) is)
+
 ---- the edges and the blockers of a file
 
-entry_there : (setting : Setting) (listing : Listing) (starts : List (Option ℕ)) (file : ℕ) (d : Directive) (next : Option ℕ) (found : Found) → Contains (graph_directives setting listing file) d
-    → found_by (layout_of listing) (record { file = file; next = next }) d ≡ Some found
-    → Contains (entries_from setting listing starts file) (lead_entry (leads (layout_of listing) starts file d) d.line (named_header d.kind))
-entry_there setting listing starts file d next found there is =
-    contains_kept (entry_of setting.undefined (layout_of listing) starts file) (graph_directives setting listing file) d _ there
-    (direct_entry setting.undefined (layout_of listing) (record { file = file; next = next }) found d.kind (leads (layout_of listing) starts file d) d.line is)
+entry_there : (setting : Setting) (listing : Listing) (starts : List Start) (file : ℕ) (d : Directive) (start : Start) (found : Found) → Contains (graph_directives setting listing file) d
+    → at_start (layouts_of setting listing) file d start ≡ Some found
+    → Contains (entries_from setting listing starts file) (lead_entry (leads (layouts_of setting listing) starts file d) d.line (named_header d.kind))
+entry_there setting listing starts file d start found there is =
+    contains_kept (entry_of setting.undefined (layouts_of setting listing) starts file) (graph_directives setting listing file) d _ there
+    (direct_entry setting.undefined (layouts_of setting listing start.path) (found_so file start) found d.kind (leads (layouts_of setting listing) starts file d) d.line is)
 
 -- a directive that finds a file in one of these ways, and in no other way another one, is an edge
-pub edge_there : (setting : Setting) (listing : Listing) (starts : List (Option ℕ)) (file : ℕ) (d : Directive) (next : Option ℕ) (found : Found) → Contains starts next → Contains (graph_directives setting listing file) d
-    → found_by (layout_of listing) (record { file = file; next = next }) d ≡ Some found → leads (layout_of listing) starts file d ≢ Several
+pub edge_there : (setting : Setting) (listing : Listing) (starts : List Start) (file : ℕ) (d : Directive) (start : Start) (found : Found) → Contains starts start → Contains (graph_directives setting listing file) d
+    → at_start (layouts_of setting listing) file d start ≡ Some found → leads (layouts_of setting listing) starts file d ≢ Several
     → Contains (edges_from setting listing starts file) (record { from = file; to = found.file; line = d.line })
-edge_there setting listing starts file d next found c there is one =
-    contains_kept (entry_edge file) (entries_from setting listing starts file) (lead_entry (leads (layout_of listing) starts file d) d.line (named_header d.kind)) _
-    (entry_there setting listing starts file d next found there is)
-    (ap (λ (lead : Lead). entry_edge file (lead_entry lead d.line (named_header d.kind))) (leads_to (layout_of listing) starts file d next found c is one))
+edge_there setting listing starts file d start found c there is one =
+    contains_kept (entry_edge file) (entries_from setting listing starts file) (lead_entry (leads (layouts_of setting listing) starts file d) d.line (named_header d.kind)) _
+    (entry_there setting listing starts file d start found there is)
+    (ap (λ (lead : Lead). entry_edge file (lead_entry lead d.line (named_header d.kind))) (leads_to (layouts_of setting listing) starts file d start found c is one))
 
 -- in any other way it is a blocker
-pub blocker_there : (setting : Setting) (listing : Listing) (defined : ℕ → Bool) (starts : List (Option ℕ)) (file : ℕ) (d : Directive) (next : Option ℕ) (found : Found) → Contains (graph_directives setting listing file) d
-    → found_by (layout_of listing) (record { file = file; next = next }) d ≡ Some found → leads (layout_of listing) starts file d ≡ Several
+pub blocker_there : (setting : Setting) (listing : Listing) (defined : ℕ → Bool) (starts : List Start) (file : ℕ) (d : Directive) (start : Start) (found : Found) → Contains (graph_directives setting listing file) d
+    → at_start (layouts_of setting listing) file d start ≡ Some found → leads (layouts_of setting listing) starts file d ≡ Several
     → Contains (blockers_from setting listing defined starts file) (record { file = file; line = d.line; kind = kind.Several })
-blocker_there setting listing defined starts file d next found there is several =
-    contains_kept (entry_blocker defined file) (entries_from setting listing starts file) (lead_entry (leads (layout_of listing) starts file d) d.line (named_header d.kind)) _
-    (entry_there setting listing starts file d next found there is)
+blocker_there setting listing defined starts file d start found there is several =
+    contains_kept (entry_blocker defined file) (entries_from setting listing starts file) (lead_entry (leads (layouts_of setting listing) starts file d) d.line (named_header d.kind)) _
+    (entry_there setting listing starts file d start found there is)
     (ap (λ (lead : Lead). entry_blocker defined file (lead_entry lead d.line (named_header d.kind))) several)
 
 edge_of_entry : (file : ℕ) (x : Entry) (e : Edge) → entry_edge file x ≡ Some e → x ≡ entry.Edge e.to e.line
@@ -283,15 +306,21 @@ edge_of_entry file (entry.Blocker line why) e is = absurd (none-some e is)
 edge_of_entry file (entry.ByName name line) e is = absurd (none-some e is)
 edge_of_entry file (entry.Defines name) e is = absurd (none-some e is)
 
--- an edge is by a directive that finds its file in one of these ways
-pub edge_by : (setting : Setting) (listing : Listing) (starts : List (Option ℕ)) (file : ℕ) (e : Edge) → Contains (edges_from setting listing starts file) e
-    → (d : Directive) × Contains (graph_directives setting listing file) d
-    × ((next : Option ℕ) × Contains starts next × ((after : Option ℕ) × (found_by (layout_of listing) (record { file = file; next = next }) d ≡ Some (record { file = e.to; next = after }))))
-edge_by setting listing starts file e c =
+-- an edge is by a directive of its line that finds its file in one of these ways
+pub edge_at : (setting : Setting) (listing : Listing) (starts : List Start) (file : ℕ) (e : Edge) → Contains (edges_from setting listing starts file) e
+    → (d : Directive) × Contains (graph_directives setting listing file) d × (d.line ≡ e.line)
+    × ((start : Start) × Contains starts start × ((after : Option ℕ) × (at_start (layouts_of setting listing) file d start ≡ Some (record { file = e.to; next = after }))))
+edge_at setting listing starts file e c =
     let x = contains_from (entry_edge file) (entries_from setting listing starts file) e c in
-    let d = contains_from (entry_of setting.undefined (layout_of listing) starts file) (graph_directives setting listing file) x.0 x.1 in (
+    let d = contains_from (entry_of setting.undefined (layouts_of setting listing) starts file) (graph_directives setting listing file) x.0 x.1 in
+    let is = d.2 ∙ ap Some (edge_of_entry file x.0 e x.2) in (
       d.0,
       d.1,
-      leads_from (layout_of listing) starts file d.0 e.to
-          (edge_lead setting.undefined (leads (layout_of listing) starts file d.0) d.0.kind d.0.line e.to e.line (d.2 ∙ ap Some (edge_of_entry file x.0 e x.2))),
+      edge_line setting.undefined (leads (layouts_of setting listing) starts file d.0) d.0.kind d.0.line e.to e.line is,
+      leads_from (layouts_of setting listing) starts file d.0 e.to (edge_lead setting.undefined (leads (layouts_of setting listing) starts file d.0) d.0.kind d.0.line e.to e.line is),
     )
+
+pub edge_by : (setting : Setting) (listing : Listing) (starts : List Start) (file : ℕ) (e : Edge) → Contains (edges_from setting listing starts file) e
+    → (d : Directive) × Contains (graph_directives setting listing file) d
+    × ((start : Start) × Contains starts start × ((after : Option ℕ) × (at_start (layouts_of setting listing) file d start ≡ Some (record { file = e.to; next = after }))))
+edge_by setting listing starts file e c = let d = edge_at setting listing starts file e c in (d.0, d.1, d.3)

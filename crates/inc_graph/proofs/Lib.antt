@@ -12,6 +12,7 @@ pub mod Walks
 pub mod NumberedEdges
 pub mod NameParts
 pub mod NumberedNames
+pub mod DirectLemmas
 pub mod StateLemmas
 pub mod LastEdges
 pub mod ListedChains
@@ -19,10 +20,12 @@ pub mod AnswerLemmas
 pub mod EnteringLemmas
 pub mod Inclusions
 pub mod LeadLemmas
+pub mod SourceLemmas
 pub mod PlaceLemmas
 pub mod ReadingLemmas
 pub mod HitLemmas
 pub mod NextLemmas
+pub mod FurtherLemmas
 pub mod DefinedNames
 pub mod DefinedParts
 pub mod EntryLemmas
@@ -36,6 +39,7 @@ pub mod OneAnswer
 pub mod OneEach
 pub mod LooplessWalks
 pub mod ClosureWalks
+pub mod OnePathLaws
 pub mod CertificateLemmas
 pub mod UnknownMarks
 pub mod AmountLists

@@ -6,11 +6,12 @@ use Rattle.std.specs.Option.{option_map_or}
 use Rattle.std.proofs.lemmas.Bool.{true≢false, false≢true, eq-eqb, eqb-true, ne_eqb, and_parts}
 use Rattle.std.proofs.lemmas.List.Folds.{list_any_at, Any-from_list_any}
 use Rattle.std.proofs.lemmas.Option.{slice_get-map, slice_get_within, slice_get-get_or, get_or_from_slice_get}
+use Rattle.inc_graph.specs.declared.building.Source.{Source}
 use Rattle.inc_graph.specs.Settings.{Setting}
 use Rattle.inc_lookup.specs.Projects.{Layout, Listing}
 use Rattle.inc_graph.specs.Chains.{target, leaves, is_walk}
 use Rattle.inc_graph.specs.Cuts.{fixed_by, costs_by}
-use Rattle.inc_graph.specs.IncludeGraph.{Edge, Graph, InClosure, IsClosure, is_found, IsGraphAnswer, LeadsToOne}
+use Rattle.inc_graph.specs.IncludeGraph.{Edge, Graph, InClosure, IsClosure, is_found, IsGraphAnswer, LeadsToOne, Start}
 use Rattle.inc_graph.specs.MarkedEdges.{names, names_edge, is_reached, amount_at, amount_for, edge_amount, amounts_by, is_kept}
 use Rattle.inc_graph.specs.Marks.{Mark, Cost}
 use Rattle.inc_graph.specs.Members.{is_member}
@@ -86,7 +87,7 @@ walk_end g a (i ∷ is) f walk =
       | inr later ↦ inr later
     ]
 
-module _ (setting : Setting) (listing : Listing) (sources headers : List ℕ) (g : Graph) (answer : IsGraphAnswer setting listing sources headers (Ok g)) (one : LeadsToOne g) where
+module _ (setting : Setting) (listing : Listing) (sources : List Source) (headers : List ℕ) (g : Graph) (answer : IsGraphAnswer setting listing sources headers (Ok g)) (one : LeadsToOne g) where
   reached_inside : (f : ℕ) → is_reached g f ≡ true → InClosure setting listing sources headers f
   reached_inside f reached =
       elim (or_either (is_member f g.sources) (list_any (λ (e : Edge). e.to == f) g.edges) reached) [
@@ -115,7 +116,7 @@ module _ (setting : Setting) (listing : Listing) (sources headers : List ℕ) (g
         | inr entered ↦ or_right (is_member f g.sources) (list_any (λ (e : Edge). e.to == f) g.edges) entered
       ]
 
-pub reached_is_inside : (setting : Setting) (listing : Listing) (sources headers : List ℕ) (g : Graph) (starts : ℕ → List (Option ℕ)) → IsGraphAnswer setting listing sources headers (Ok g) → LeadsToOne g
+pub reached_is_inside : (setting : Setting) (listing : Listing) (sources : List Source) (headers : List ℕ) (g : Graph) (starts : ℕ → List Start) → IsGraphAnswer setting listing sources headers (Ok g) → LeadsToOne g
     → IsClosure setting listing sources headers starts → (f : ℕ) → is_reached g f ≡ is_found (starts f)
 reached_is_inside setting listing sources headers g starts answer one closure f =
     both_ways (is_reached g f) (is_found (starts f))

@@ -4,17 +4,17 @@ use Rattle.std.specs.Prelude.{filter_map, flat_map}
 use Rattle.std.specs.List.{cons_option, list_all}
 use Rattle.std.proofs.lemmas.List.{map-append}
 use Rattle.inc_graph.specs.Members.{is_member}
-use Rattle.inc_graph.specs.Settings.{Setting}
+use Rattle.inc_graph.specs.Settings.{Setting, layouts_of}
 use Rattle.inc_directive.specs.LineKinds.{LineKind, Include, Other, Quoted, Angled, ByName, Computed}
 use Rattle.inc_directive.specs.declared.kinds.DirectiveKind.TheVariants.{Foreign}
 use Rattle.inc_directive.specs.FileDirectives.{Directive}
 use Rattle.inc_graph.specs.FileEntries.{Entry}
 use Rattle.inc_directive.proofs.LineOrder.{AscendFrom}
 use Rattle.inc_graph.specs.MissingLists.{Missing}
-use Rattle.inc_lookup.specs.Projects.{Layout, Listing, layout_of}
+use Rattle.inc_lookup.specs.Projects.{Layout, Listing}
 use Rattle.inc_lookup.specs.declared.projects.Form.TheVariants as form
 use Rattle.inc_graph.specs.HeaderNames.{HeaderName, header_of}
-use Rattle.inc_graph.specs.IncludeGraph.{Edge, Lead, Nowhere, To, Several, leads, lead_entry, name_entry, undefined_place, entry_at, entry_of, entry_missing, graph_directives, missing_from, is_found, inner_files, is_edge_before, are_ordered, is_before, are_in_order}
+use Rattle.inc_graph.specs.IncludeGraph.{Edge, Lead, Nowhere, To, Several, leads, lead_entry, name_entry, undefined_place, entry_at, entry_of, entry_missing, graph_directives, missing_from, is_found, inner_files, is_edge_before, are_ordered, is_before, are_in_order, Start}
 use Rattle.inc_graph.proofs.EdgeOrder.{Leave, leave-lower, directives_ascend, InOrder, order_range}
 
 -- an edge at the place of a directive
@@ -47,14 +47,14 @@ leave_with names file line at lead (Include by Computed) es le h = lower file li
 leave_with names file line at lead (Other Foreign) es le h = lower file line at es le h
 leave_with names file line at lead _ es le h = lower file line at es le h
 
-leave_in : (names : List (List ℕ)) (layout : Layout) (starts : List (Option ℕ)) (file line : ℕ) (ds : List Directive) → AscendFrom line ds → Leave file line (map edge_there (filter_map (entry_missing file) (filter_map (entry_of names layout starts file) ds)))
-leave_in names layout starts file line [] h = tt
-leave_in names layout starts file line (d ∷ ds) h =
-    leave_with names file line d.line (leads layout starts file d) d.kind (filter_map (entry_of names layout starts file) ds) h.0 (leave_in names layout starts file (d.line + 1) ds h.1)
+leave_in : (names : List (List ℕ)) (layouts : ℕ → Layout) (starts : List Start) (file line : ℕ) (ds : List Directive) → AscendFrom line ds → Leave file line (map edge_there (filter_map (entry_missing file) (filter_map (entry_of names layouts starts file) ds)))
+leave_in names layouts starts file line [] h = tt
+leave_in names layouts starts file line (d ∷ ds) h =
+    leave_with names file line d.line (leads layouts starts file d) d.kind (filter_map (entry_of names layouts starts file) ds) h.0 (leave_in names layouts starts file (d.line + 1) ds h.1)
 
-leave_file : (setting : Setting) (listing : Listing) (starts : List (Option ℕ)) (file : ℕ) → Leave file 1 (map edge_there (missing_from setting listing starts file))
+leave_file : (setting : Setting) (listing : Listing) (starts : List Start) (file : ℕ) → Leave file 1 (map edge_there (missing_from setting listing starts file))
 leave_file setting listing starts file =
-    leave_in setting.undefined (layout_of listing) starts file 1 (graph_directives setting listing file) (directives_ascend setting listing file)
+    leave_in setting.undefined (layouts_of setting listing) starts file 1 (graph_directives setting listing file) (directives_ascend setting listing file)
 
 ---- those of all files
 
@@ -73,7 +73,7 @@ in_order_there [] = refl
 in_order_there (d ∷ ds) =
     ap (λ b. b && are_ordered (map edge_there ds)) (all_before d ds) ∙ ap (λ b. list_all (λ (e : Missing). is_before d e.file e.line) ds && b) (in_order_there ds)
 
-pub missing_in_order : (setting : Setting) (listing : Listing) (starts : ℕ → List (Option ℕ)) (headers : List ℕ)
+pub missing_in_order : (setting : Setting) (listing : Listing) (starts : ℕ → List Start) (headers : List ℕ)
     → are_in_order (flat_map (λ f. missing_from setting listing (starts f) f) (inner_files listing starts headers)) ≡ true
 missing_in_order setting listing starts headers =
     let files : List ℕ = inner_files listing starts headers in

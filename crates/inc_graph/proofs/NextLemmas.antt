@@ -18,12 +18,12 @@ use Rattle.inc_graph.specs.FileEntries.{Entry}
 use Rattle.inc_graph.specs.declared.building.entries.Entry.TheVariants as entry
 use Rattle.inc_graph.specs.declared.graphs.BlockerKind.TheVariants as kind
 use Rattle.inc_graph.specs.HeaderNames.{HeaderName, header_of}
-use Rattle.inc_graph.specs.IncludeGraph.{Named, Lead, Nowhere, To, Several, direct_header, named_place, found_by, with_target, with_found, leads, lead_entry, name_entry, undefined_place, entry_of}
+use Rattle.inc_graph.specs.IncludeGraph.{Named, Lead, Nowhere, Start, found_so, To, Several, direct_header, named_place, found_by, with_target, with_found, leads, lead_entry, name_entry, undefined_place, entry_of}
 use Rattle.inc_graph.specs.Entries.{entries_of, directives_found}
 use Rattle.inc_graph.specs.Nexts.{Next, next_found, next_of, entry_count, nexts_from, nexts_of, led_entry, led_at, led_state, with_nexts, nexts_found}
 use Rattle.inc_graph.proofs.EntryLemmas.{named_within}
 use Rattle.inc_graph.proofs.HitLemmas.{hits_find}
-use Rattle.inc_graph.proofs.LeadLemmas.{contains_first, contains_later, contains_cases, contains_nothing, contains_from, found_twice}
+use Rattle.inc_graph.proofs.LeadLemmas.{contains_first, contains_later, contains_cases, contains_nothing, contains_from, leads_steady}
 
 ---- what they find
 
@@ -120,7 +120,7 @@ nexts_within layout at r k d low =
 ---- what becomes of the entries
 
 -- a directive that leads to one file more
-led_lead : (hn : HeaderName) (lead : Lead) (f line : ℕ) → led_entry f (lead_entry lead line hn) ≡ lead_entry (with_target lead f) line hn
+pub led_lead : (hn : HeaderName) (lead : Lead) (f line : ℕ) → led_entry f (lead_entry lead line hn) ≡ lead_entry (with_target lead f) line hn
 led_lead hn Nowhere f line = refl
 led_lead hn (To g) f line = by_test (g == f) where
   by_test : (b : Bool) → cond b (entry.Edge g line) (entry.Blocker line kind.Several) ≡ lead_entry (cond b (To g) Several) line hn
@@ -144,20 +144,14 @@ led_seam pre f e es =
     ap (λ (o : Option Entry). elim o [ Some x ↦ set (pre ++ e ∷ es) (length pre) (led_entry f x) | None ↦ pre ++ e ∷ es ]) (get_seam pre e es)
     ∙ set_seam pre e (led_entry f e) es
 
-found_seam : (hn : HeaderName) (pre : List Entry) (lead : Lead) (line : ℕ) (es : List Entry) (o : Option Found)
+pub found_seam : (hn : HeaderName) (pre : List Entry) (lead : Lead) (line : ℕ) (es : List Entry) (o : Option Found)
     → option_map_or (λ (f : Found). led_at (length pre) f.file (pre ++ lead_entry lead line hn ∷ es)) o (pre ++ lead_entry lead line hn ∷ es) ≡ pre ++ lead_entry (with_found o lead) line hn ∷ es
 found_seam hn pre lead line es None = refl
 found_seam hn pre lead line es (Some f) = led_seam pre f.file (lead_entry lead line hn) es ∙ ap (λ (e : Entry). pre ++ e ∷ es) (led_lead hn lead f.file line)
 
--- a directive that finds the same in each way in which its file is found
-steady : (layout : Layout) (file : ℕ) (s t : Option ℕ) (ts : List (Option ℕ)) (d : Directive)
-    → found_by layout (record { file = file; next = s }) d ≡ found_by layout (record { file = file; next = t }) d → leads layout (s ∷ t ∷ ts) file d ≡ leads layout (t ∷ ts) file d
-steady layout file s t ts d same =
-    ap (λ (o : Option Found). with_found o (leads layout (t ∷ ts) file d)) same ∙ found_twice (found_by layout (record { file = file; next = t }) d) (leads layout ts file d)
-
 -- the entries of directives, in these ways
-abbrev entries_in : List (List ℕ) → Layout → List (Option ℕ) → ℕ → List Directive → List Entry
-entries_in names layout starts file ds = filter_map (entry_of names layout starts file) ds
+abbrev pub entries_in : List (List ℕ) → (layouts : ℕ → Layout) → List Start → ℕ → List Directive → List Entry
+entries_in names layouts starts file ds = filter_map (entry_of names layouts starts file) ds
 
 -- the definitions of a file
 abbrev defined : List ℕ → List Entry
@@ -174,7 +168,7 @@ led_defined f (k ∷ ks) (suc i) = one (slice_get (defined ks) i) (led_defined f
     one None e = refl
     one (Some x) e = ap (λ (l : List Entry). entry.Defines k ∷ l) e
 
-led_ahead : (ks : List ℕ) (f : ℕ) (es : List Entry) (i : ℕ) → led_at i f (es ++ defined ks) ≡ led_at i f es ++ defined ks
+pub led_ahead : (ks : List ℕ) (f : ℕ) (es : List Entry) (i : ℕ) → led_at i f (es ++ defined ks) ≡ led_at i f es ++ defined ks
 led_ahead ks f [] i = led_defined f ks i
 led_ahead ks f (e ∷ es) zero = refl
 led_ahead ks f (e ∷ es) (suc i) = one (slice_get (es ++ defined ks) i) (slice_get es i) (led_ahead ks f es i)
@@ -188,76 +182,76 @@ led_ahead ks f (e ∷ es) (suc i) = one (slice_get (es ++ defined ks) i) (slice_
     one (Some x) None h = ap (λ (l : List Entry). e ∷ l) h
     one (Some x) (Some y) h = ap (λ (l : List Entry). e ∷ l) h
 
-module _ (names : List (List ℕ)) (layout : Layout) (file : ℕ) (s t : Option ℕ) (ts : List (Option ℕ)) where
+module _ (names : List (List ℕ)) (layouts : ℕ → Layout) (file : ℕ) (s : Start) (starts : List Start) (u : Option ℕ) (there : Contains starts (record { path = s.path; next = u })) where
   -- those of directives that come after others, with one way more
   abbrev Grow : List Entry → List Directive → Type 0
-  Grow pre ds = fold (led_by s) (pre ++ entries_in names layout (t ∷ ts) file ds) (nexts_from layout file (length pre) ds) ≡ pre ++ entries_in names layout (s ∷ t ∷ ts) file ds
+  Grow pre ds = fold (led_by s.next) (pre ++ entries_in names layouts starts file ds) (nexts_from (layouts s.path) file (length pre) ds) ≡ pre ++ entries_in names layouts (s ∷ starts) file ds
 
   -- an entry that stays
   past : (pre : List Entry) (e : Entry) (ds : List Directive) → Grow (pre ++ e ∷ []) ds
-      → fold (led_by s) (pre ++ e ∷ entries_in names layout (t ∷ ts) file ds) (nexts_from layout file (length pre + 1) ds) ≡ pre ++ e ∷ entries_in names layout (s ∷ t ∷ ts) file ds
+      → fold (led_by s.next) (pre ++ e ∷ entries_in names layouts starts file ds) (nexts_from (layouts s.path) file (length pre + 1) ds) ≡ pre ++ e ∷ entries_in names layouts (s ∷ starts) file ds
   past pre e ds grow =
-      let f = led_by s in
+      let f = led_by s.next in
       let len : length (pre ++ e ∷ []) ≡ length pre + 1 = omega (arith, length-append pre (e ∷ [])) in
-      ap (λ (l : List Entry). fold f l (nexts_from layout file (length pre + 1) ds)) (sym (append_assoc pre (e ∷ []) (entries_in names layout (t ∷ ts) file ds)))
-      ∙ ap (λ (n : ℕ). fold f ((pre ++ e ∷ []) ++ entries_in names layout (t ∷ ts) file ds) (nexts_from layout file n ds)) (sym len)
+      ap (λ (l : List Entry). fold f l (nexts_from (layouts s.path) file (length pre + 1) ds)) (sym (append_assoc pre (e ∷ []) (entries_in names layouts starts file ds)))
+      ∙ ap (λ (n : ℕ). fold f ((pre ++ e ∷ []) ++ entries_in names layouts starts file ds) (nexts_from (layouts s.path) file n ds)) (sym len)
       ∙ grow
-      ∙ append_assoc pre (e ∷ []) (entries_in names layout (s ∷ t ∷ ts) file ds)
+      ∙ append_assoc pre (e ∷ []) (entries_in names layouts (s ∷ starts) file ds)
 
   -- an #include_next with this header
   next_step : (hn : HeaderName) (pre : List Entry) (lead : Lead) (line : ℕ) (header : Named) (ds : List Directive) → ((more : List Entry) → Grow more ds)
-      → fold (led_by s)
-      (option_map_or (λ (f : Found). led_at (length pre) f.file (pre ++ lead_entry lead line hn ∷ entries_in names layout (t ∷ ts) file ds)) (named_place layout (record { file = file; next = s }) header)
-      (pre ++ lead_entry lead line hn ∷ entries_in names layout (t ∷ ts) file ds)) (nexts_from layout file (length pre + 1) ds)
-      ≡ pre ++ lead_entry (with_found (named_place layout (record { file = file; next = s }) header) lead) line hn ∷ entries_in names layout (s ∷ t ∷ ts) file ds
+      → fold (led_by s.next)
+      (option_map_or (λ (f : Found). led_at (length pre) f.file (pre ++ lead_entry lead line hn ∷ entries_in names layouts starts file ds)) (named_place (layouts s.path) (found_so file s) header)
+      (pre ++ lead_entry lead line hn ∷ entries_in names layouts starts file ds)) (nexts_from (layouts s.path) file (length pre + 1) ds)
+      ≡ pre ++ lead_entry (with_found (named_place (layouts s.path) (found_so file s) header) lead) line hn ∷ entries_in names layouts (s ∷ starts) file ds
   next_step hn pre lead line header ds grow =
-      let f = led_by s in
-      let o = named_place layout (record { file = file; next = s }) header in
-      ap (λ (l : List Entry). fold f l (nexts_from layout file (length pre + 1) ds)) (found_seam hn pre lead line (entries_in names layout (t ∷ ts) file ds) o)
+      let f = led_by s.next in
+      let o = named_place (layouts s.path) (found_so file s) header in
+      ap (λ (l : List Entry). fold f l (nexts_from (layouts s.path) file (length pre + 1) ds)) (found_seam hn pre lead line (entries_in names layouts starts file ds) o)
       ∙ past pre (lead_entry (with_found o lead) line hn) ds (grow (pre ++ lead_entry (with_found o lead) line hn ∷ []))
 
   -- what it finds
   next_found_as : (hn : HeaderName) (pre : List Entry) (lead : Lead) (line : ℕ) (ds : List Directive) {o p : Option Found} → o ≡ p
-      → fold (led_by s) (option_map_or (λ (f : Found). led_at (length pre) f.file (pre ++ lead_entry lead line hn ∷ entries_in names layout (t ∷ ts) file ds)) o (pre ++ lead_entry lead line hn ∷ entries_in names layout (t ∷ ts) file ds))
-      (nexts_from layout file (length pre + 1) ds)
-      ≡ fold (led_by s) (option_map_or (λ (f : Found). led_at (length pre) f.file (pre ++ lead_entry lead line hn ∷ entries_in names layout (t ∷ ts) file ds)) p (pre ++ lead_entry lead line hn ∷ entries_in names layout (t ∷ ts) file ds))
-      (nexts_from layout file (length pre + 1) ds)
+      → fold (led_by s.next) (option_map_or (λ (f : Found). led_at (length pre) f.file (pre ++ lead_entry lead line hn ∷ entries_in names layouts starts file ds)) o (pre ++ lead_entry lead line hn ∷ entries_in names layouts starts file ds))
+      (nexts_from (layouts s.path) file (length pre + 1) ds)
+      ≡ fold (led_by s.next) (option_map_or (λ (f : Found). led_at (length pre) f.file (pre ++ lead_entry lead line hn ∷ entries_in names layouts starts file ds)) p (pre ++ lead_entry lead line hn ∷ entries_in names layouts starts file ds))
+      (nexts_from (layouts s.path) file (length pre + 1) ds)
   next_found_as hn pre lead line ds same =
-      ap (λ (x : Option Found). fold (led_by s) (option_map_or (λ (f : Found). led_at (length pre) f.file (pre ++ lead_entry lead line hn ∷ entries_in names layout (t ∷ ts) file ds)) x (pre ++ lead_entry lead line hn ∷ entries_in names layout (t ∷ ts) file ds))
-      (nexts_from layout file (length pre + 1) ds)) same
+      ap (λ (x : Option Found). fold (led_by s.next) (option_map_or (λ (f : Found). led_at (length pre) f.file (pre ++ lead_entry lead line hn ∷ entries_in names layouts starts file ds)) x (pre ++ lead_entry lead line hn ∷ entries_in names layouts starts file ds))
+      (nexts_from (layouts s.path) file (length pre + 1) ds)) same
 
   -- another direct include directive
   steady_step : (hn : HeaderName) (pre : List Entry) (line : ℕ) (lead later : Lead) (ds : List Directive) → later ≡ lead → ((more : List Entry) → Grow more ds)
-      → fold (led_by s) (pre ++ lead_entry lead line hn ∷ entries_in names layout (t ∷ ts) file ds) (nexts_from layout file (length pre + 1) ds)
-      ≡ pre ++ lead_entry later line hn ∷ entries_in names layout (s ∷ t ∷ ts) file ds
+      → fold (led_by s.next) (pre ++ lead_entry lead line hn ∷ entries_in names layouts starts file ds) (nexts_from (layouts s.path) file (length pre + 1) ds)
+      ≡ pre ++ lead_entry later line hn ∷ entries_in names layouts (s ∷ starts) file ds
   steady_step hn pre line lead later ds same grow =
       past pre (lead_entry lead line hn) ds (grow (pre ++ lead_entry lead line hn ∷ []))
-      ∙ ap (λ (x : Lead). pre ++ lead_entry x line hn ∷ entries_in names layout (s ∷ t ∷ ts) file ds) (sym same)
+      ∙ ap (λ (x : Lead). pre ++ lead_entry x line hn ∷ entries_in names layouts (s ∷ starts) file ds) (sym same)
 
   -- no include directive
   skip : (pre : List Entry) (ds : List Directive) → Grow pre ds
-      → fold (led_by s) (pre ++ entries_in names layout (t ∷ ts) file ds) (nexts_from layout file (length pre + 0) ds) ≡ pre ++ entries_in names layout (s ∷ t ∷ ts) file ds
+      → fold (led_by s.next) (pre ++ entries_in names layouts starts file ds) (nexts_from (layouts s.path) file (length pre + 0) ds) ≡ pre ++ entries_in names layouts (s ∷ starts) file ds
   skip pre ds grow =
-      ap (λ (n : ℕ). fold (led_by s) (pre ++ entries_in names layout (t ∷ ts) file ds) (nexts_from layout file n ds)) (zero_more (length pre)) ∙ grow
+      ap (λ (n : ℕ). fold (led_by s.next) (pre ++ entries_in names layouts starts file ds) (nexts_from (layouts s.path) file n ds)) (zero_more (length pre)) ∙ grow
     where
       zero_more : (n : ℕ) → n + 0 ≡ n
       zero_more n = omega arith
 
   by_kind : (pre : List Entry) (k : LineKind) (line : ℕ) (ds : List Directive) → ((more : List Entry) → Grow more ds) → Grow pre (record { kind = k; line = line } ∷ ds)
   by_kind pre (Include by.IncludeNext (Quoted name)) line ds grow =
-      next_found_as (header_of form.Quoted name) pre (leads layout (t ∷ ts) file (record { kind = Include by.IncludeNext (Quoted name); line = line })) line ds (hits_find layout file (length pre) form.Quoted name s)
-      ∙ next_step (header_of form.Quoted name) pre (leads layout (t ∷ ts) file (record { kind = Include by.IncludeNext (Quoted name); line = line })) line (record { by = by.IncludeNext; form = form.Quoted; name = name }) ds grow
+      next_found_as (header_of form.Quoted name) pre (leads layouts starts file (record { kind = Include by.IncludeNext (Quoted name); line = line })) line ds (hits_find (layouts s.path) file (length pre) form.Quoted name s.next)
+      ∙ next_step (header_of form.Quoted name) pre (leads layouts starts file (record { kind = Include by.IncludeNext (Quoted name); line = line })) line (record { by = by.IncludeNext; form = form.Quoted; name = name }) ds grow
   by_kind pre (Include by.IncludeNext (Angled name)) line ds grow =
-      next_found_as (header_of form.Angled name) pre (leads layout (t ∷ ts) file (record { kind = Include by.IncludeNext (Angled name); line = line })) line ds (hits_find layout file (length pre) form.Angled name s)
-      ∙ next_step (header_of form.Angled name) pre (leads layout (t ∷ ts) file (record { kind = Include by.IncludeNext (Angled name); line = line })) line (record { by = by.IncludeNext; form = form.Angled; name = name }) ds grow
+      next_found_as (header_of form.Angled name) pre (leads layouts starts file (record { kind = Include by.IncludeNext (Angled name); line = line })) line ds (hits_find (layouts s.path) file (length pre) form.Angled name s.next)
+      ∙ next_step (header_of form.Angled name) pre (leads layouts starts file (record { kind = Include by.IncludeNext (Angled name); line = line })) line (record { by = by.IncludeNext; form = form.Angled; name = name }) ds grow
   by_kind pre (Include by.Include (Quoted name)) line ds grow =
-      steady_step (header_of form.Quoted name) pre line _ _ ds (steady layout file s t ts (record { kind = Include by.Include (Quoted name); line = line }) refl) grow
+      steady_step (header_of form.Quoted name) pre line _ _ ds (leads_steady layouts s (record { path = s.path; next = u }) starts file (record { kind = Include by.Include (Quoted name); line = line }) there refl) grow
   by_kind pre (Include by.Include (Angled name)) line ds grow =
-      steady_step (header_of form.Angled name) pre line _ _ ds (steady layout file s t ts (record { kind = Include by.Include (Angled name); line = line }) refl) grow
+      steady_step (header_of form.Angled name) pre line _ _ ds (leads_steady layouts s (record { path = s.path; next = u }) starts file (record { kind = Include by.Include (Angled name); line = line }) there refl) grow
   by_kind pre (Include by.Import (Quoted name)) line ds grow =
-      steady_step (header_of form.Quoted name) pre line _ _ ds (steady layout file s t ts (record { kind = Include by.Import (Quoted name); line = line }) refl) grow
+      steady_step (header_of form.Quoted name) pre line _ _ ds (leads_steady layouts s (record { path = s.path; next = u }) starts file (record { kind = Include by.Import (Quoted name); line = line }) there refl) grow
   by_kind pre (Include by.Import (Angled name)) line ds grow =
-      steady_step (header_of form.Angled name) pre line _ _ ds (steady layout file s t ts (record { kind = Include by.Import (Angled name); line = line }) refl) grow
+      steady_step (header_of form.Angled name) pre line _ _ ds (leads_steady layouts s (record { path = s.path; next = u }) starts file (record { kind = Include by.Import (Angled name); line = line }) there refl) grow
   by_kind pre (Include how (ByName name)) line ds grow = past pre (name_entry (undefined_place names name) line) ds (grow (pre ++ name_entry (undefined_place names name) line ∷ []))
   by_kind pre (Include how Computed) line ds grow = past pre (entry.Blocker line kind.Computed) ds (grow (pre ++ entry.Blocker line kind.Computed ∷ []))
   by_kind pre (Other Foreign) line ds grow = past pre (entry.Blocker line kind.Foreign) ds (grow (pre ++ entry.Blocker line kind.Foreign ∷ []))
@@ -268,33 +262,33 @@ module _ (names : List (List ℕ)) (layout : Layout) (file : ℕ) (s t : Option 
   grown (d ∷ ds) pre = by_kind pre d.kind d.line ds (λ more. grown ds more)
 
   -- the same of what is known of the file
-  followed_all : (es : List Entry) (nexts : List Next) → with_nexts s (Some (Ok es)) nexts ≡ Some (Ok (fold (led_by s) es nexts))
+  followed_all : (es : List Entry) (nexts : List Next) → with_nexts s.next (Some (Ok es)) nexts ≡ Some (Ok (fold (led_by s.next) es nexts))
   followed_all es [] = refl
   followed_all es (n ∷ ns) =
-      ap (λ x. with_nexts s x ns) (one (next_found n s))
-      ∙ followed_all (led_by s es n) ns
+      ap (λ x. with_nexts s.next x ns) (one (next_found n s.next))
+      ∙ followed_all (led_by s.next es n) ns
     where
       one : (o : Option Found) → option_map_or (λ (f : Found). led_state n.index f.file (Some (Ok es))) o (Some (Ok es)) ≡ Some (Ok (option_map_or (λ (f : Found). led_at n.index f.file es) o es))
       one None = refl
       one (Some f) = refl
 
   -- definitions that come after them stay
-  led_before : (ks : List ℕ) (n : Next) (es : List Entry) → led_by s (es ++ map entry.Defines ks) n ≡ led_by s es n ++ map entry.Defines ks
-  led_before ks n es = one (next_found n s)
+  led_before : (ks : List ℕ) (n : Next) (es : List Entry) → led_by s.next (es ++ map entry.Defines ks) n ≡ led_by s.next es n ++ map entry.Defines ks
+  led_before ks n es = one (next_found n s.next)
     where
       one : (o : Option Found) → option_map_or (λ (f : Found). led_at n.index f.file (es ++ map entry.Defines ks)) o (es ++ map entry.Defines ks)
           ≡ option_map_or (λ (f : Found). led_at n.index f.file es) o es ++ map entry.Defines ks
       one None = refl
       one (Some f) = led_ahead ks f.file es n.index
 
-  all_before : (ks : List ℕ) (nexts : List Next) (es : List Entry) → fold (led_by s) (es ++ map entry.Defines ks) nexts ≡ fold (led_by s) es nexts ++ map entry.Defines ks
+  all_before : (ks : List ℕ) (nexts : List Next) (es : List Entry) → fold (led_by s.next) (es ++ map entry.Defines ks) nexts ≡ fold (led_by s.next) es nexts ++ map entry.Defines ks
   all_before ks [] es = refl
-  all_before ks (n ∷ ns) es = ap (λ (l : List Entry). fold (led_by s) l ns) (led_before ks n es) ∙ all_before ks ns (led_by s es n)
+  all_before ks (n ∷ ns) es = ap (λ (l : List Entry). fold (led_by s.next) l ns) (led_before ks n es) ∙ all_before ks ns (led_by s.next es n)
 
   -- a file that is found in one way more
   pub entries_more : (places : List ℕ) (r : Result (List Directive) FileFault)
-      → with_nexts s (Some (entries_of names layout (t ∷ ts) file places r)) (nexts_of layout file r) ≡ Some (entries_of names layout (s ∷ t ∷ ts) file places r)
+      → with_nexts s.next (Some (entries_of (entry_of names layouts starts file) places r)) (nexts_of (layouts s.path) file r) ≡ Some (entries_of (entry_of names layouts (s ∷ starts) file) places r)
   entries_more places (Ok ds) =
-      followed_all (entries_in names layout (t ∷ ts) file ds ++ map entry.Defines places) (nexts_from layout file 0 ds)
-      ∙ ap (λ (es : List Entry). Some (Ok es)) (all_before places (nexts_from layout file 0 ds) (entries_in names layout (t ∷ ts) file ds) ∙ ap (λ (l : List Entry). l ++ map entry.Defines places) (grown ds []))
+      followed_all (entries_in names layouts starts file ds ++ map entry.Defines places) (nexts_from (layouts s.path) file 0 ds)
+      ∙ ap (λ (es : List Entry). Some (Ok es)) (all_before places (nexts_from (layouts s.path) file 0 ds) (entries_in names layouts starts file ds) ∙ ap (λ (l : List Entry). l ++ map entry.Defines places) (grown ds []))
   entries_more places (Err fault) = refl

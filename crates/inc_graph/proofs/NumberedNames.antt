@@ -26,7 +26,7 @@ name_more names h k low = get_or_append_left names (h ∷ []) (header_of Quoted 
 pub name_last : (names : List HeaderName) (h : HeaderName) (k : ℕ) → k ≡ length names → name_at (names ++ h ∷ []) k ≡ h
 name_last names h k last = ap (name_at (names ++ h ∷ [])) last ∙ get_or-append_seam names h [] (header_of Quoted [])
 
-map_agree : {X Y : Type 0} (f g : X → Y) (P : X → Type 0) → ((x : X) → P x → f x ≡ g x) → (xs : List X) → All P xs → map f xs ≡ map g xs
+pub map_agree : {X Y : Type 0} (f g : X → Y) (P : X → Type 0) → ((x : X) → P x → f x ≡ g x) → (xs : List X) → All P xs → map f xs ≡ map g xs
 map_agree f g P same [] all = refl
 map_agree f g P same (x ∷ xs) all = ap (λ y. y ∷ map f xs) (same x (All-head P x xs all)) ∙ ap (λ ys. g x ∷ ys) (map_agree f g P same xs (All-tail P x xs all))
 

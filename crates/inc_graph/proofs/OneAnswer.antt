@@ -5,14 +5,15 @@ use Rattle.std.specs.List.{range_with_len, cons_option}
 use Rattle.std.proofs.lemmas.List.Elements.{filter_agree}
 use Rattle.std.proofs.lemmas.Option.{slice_get_within}
 use Rattle.std.proofs.lemmas.Bool.{cases_order, cond-true, cond-false, eq-eqb, ne_eqb, ltb-true, not-true, false≢true}
+use Rattle.inc_graph.specs.declared.building.Source.{Source}
 use Rattle.inc_graph.specs.Members.{is_member}
-use Rattle.inc_graph.specs.Settings.{Setting}
+use Rattle.inc_graph.specs.Settings.{Setting, layouts_of}
 use Rattle.inc_graph.specs.MissingLists.{Missing}
-use Rattle.inc_lookup.specs.Projects.{Listing, layout_of}
+use Rattle.inc_lookup.specs.Projects.{Listing}
 use Rattle.inc_graph.specs.FileEntries.{Entry}
 use Rattle.inc_graph.specs.declared.graphs.Blocker.{Blocker}
 use Rattle.inc_graph.specs.declared.building.GraphRefusal.{GraphRefusal}
-use Rattle.inc_graph.specs.IncludeGraph.{Edge, Graph, Lead, entry_at, entry_of, entry_edge, entry_missing, entry_blocker, entries_from, edges_from, missing_from, blockers_from, graph_directives, IsClosure, is_found, inner_files, bad_file, graph_or_bad, graph_of_files, directive_count, is_defined_in, graph_answer, IsGraphAnswer}
+use Rattle.inc_graph.specs.IncludeGraph.{Edge, Graph, Lead, entry_at, entry_of, entry_edge, entry_missing, entry_blocker, entries_from, edges_from, missing_from, blockers_from, graph_directives, IsClosure, is_found, inner_files, bad_file, graph_or_bad, graph_of_files, directive_count, is_defined_in, graph_answer, IsGraphAnswer, source_files, Start}
 use Rattle.inc_graph.specs.Reaching as reaching
 use Rattle.inc_graph.specs.Reaching.{alone, Reaching, AreReaching}
 use Rattle.inc_graph.specs.Chains.{is_walk, is_chain, is_before, ends_with, IsFirstShortest, IsShortest, IsShortestOrNone, AreChainsByLast, no_more, ends_one, ends_none}
@@ -27,16 +28,16 @@ same_tests false true h k = k refl
 same_tests false false h k = refl
 
 -- what is one way in which a file is found is one in the other list too
-pub one_closure : (setting : Setting) (listing : Listing) (sources headers : List ℕ) (a b : ℕ → List (Option ℕ))
-    → IsClosure setting listing sources headers a → IsClosure setting listing sources headers b → (f : ℕ) (next : Option ℕ) → Contains (a f) next → Contains (b f) next
-one_closure setting listing sources headers a b h k f next c = (k (record { file = f; next = next })).1 ((h (record { file = f; next = next })).0 c)
+pub one_closure : (setting : Setting) (listing : Listing) (sources : List Source) (headers : List ℕ) (a b : ℕ → List Start)
+    → IsClosure setting listing sources headers a → IsClosure setting listing sources headers b → (f : ℕ) (start : Start) → Contains (a f) start → Contains (b f) start
+one_closure setting listing sources headers a b h k f start c = (k f start).1 ((h f start).0 c)
 
-some_found : (a b : List (Option ℕ)) → ((next : Option ℕ) → Contains a next → Contains b next) → is_found a ≡ true → is_found b ≡ true
+some_found : (a b : List Start) → ((start : Start) → Contains a start → Contains b start) → is_found a ≡ true → is_found b ≡ true
 some_found [] b to is = absurd (false≢true is)
 some_found (n ∷ ns) [] to is = absurd (contains_nothing n (to n (contains_first n ns)))
 some_found (n ∷ ns) (m ∷ ms) to is = refl
 
-pub one_found : (setting : Setting) (listing : Listing) (sources headers : List ℕ) (a b : ℕ → List (Option ℕ))
+pub one_found : (setting : Setting) (listing : Listing) (sources : List Source) (headers : List ℕ) (a b : ℕ → List Start)
     → IsClosure setting listing sources headers a → IsClosure setting listing sources headers b → (f : ℕ) → is_found (a f) ≡ is_found (b f)
 one_found setting listing sources headers a b h k f =
     same_tests (is_found (a f)) (is_found (b f))
@@ -52,16 +53,16 @@ flat_map_agree f g same [] = refl
 flat_map_agree f g same (x ∷ xs) = ap (λ l. l ++ flat_map f xs) (same x) ∙ ap (λ l. g x ++ l) (flat_map_agree f g same xs)
 
 -- so the include directives of a file are the same
-pub same_entries : (setting : Setting) (listing : Listing) (a b : List (Option ℕ)) (f : ℕ) → ((next : Option ℕ) → Contains a next → Contains b next) → ((next : Option ℕ) → Contains b next → Contains a next)
+pub same_entries : (setting : Setting) (listing : Listing) (a b : List Start) (f : ℕ) → ((start : Start) → Contains a start → Contains b start) → ((start : Start) → Contains b start → Contains a start)
     → entries_from setting listing a f ≡ entries_from setting listing b f
 same_entries setting listing a b f to from =
-    filter_map_agree (entry_of setting.undefined (layout_of listing) a f) (entry_of setting.undefined (layout_of listing) b f)
-    (λ d. ap (λ (lead : Lead). entry_at setting.undefined lead d.kind d.line) (same_leads (layout_of listing) a b f d to from)) (graph_directives setting listing f)
+    filter_map_agree (entry_of setting.undefined (layouts_of setting listing) a f) (entry_of setting.undefined (layouts_of setting listing) b f)
+    (λ d. ap (λ (lead : Lead). entry_at setting.undefined lead d.kind d.line) (same_leads (layouts_of setting listing) a b f d to from)) (graph_directives setting listing f)
 
-graph_with : Listing → (sources headers : List ℕ) → List Edge → List Missing → List Blocker → Graph
-graph_with listing sources headers es ms bs = record { files = length listing.files; sources = sources; headers = headers; edges = es; missing = ms; blockers = bs }
+graph_with : Listing → (sources : List Source) → (headers : List ℕ) → List Edge → List Missing → List Blocker → Graph
+graph_with listing sources headers es ms bs = record { files = length listing.files; sources = source_files sources; headers = headers; edges = es; missing = ms; blockers = bs }
 
-same_graph : (setting : Setting) (listing : Listing) (sources headers : List ℕ) (a b : ℕ → List (Option ℕ)) → ((f : ℕ) → entries_from setting listing (a f) f ≡ entries_from setting listing (b f) f)
+same_graph : (setting : Setting) (listing : Listing) (sources : List Source) (headers : List ℕ) (a b : ℕ → List Start) → ((f : ℕ) → entries_from setting listing (a f) f ≡ entries_from setting listing (b f) f)
     → (files : List ℕ) → graph_of_files setting listing sources headers a files ≡ graph_of_files setting listing sources headers b files
 unfolding graph_with
 same_graph setting listing sources headers a b same files =
@@ -73,7 +74,7 @@ same_graph setting listing sources headers a b same files =
     ∙ ap (λ x. graph_with listing sources headers (flat_map (λ f. edges_from setting listing (b f) f) files) x (flat_map (λ f. blockers_from setting listing defined (a f) f) files)) ms
     ∙ ap (λ x. graph_with listing sources headers (flat_map (λ f. edges_from setting listing (b f) f) files) (flat_map (λ f. missing_from setting listing (b f) f) files) x) bs
 
-same_answer : (setting : Setting) (listing : Listing) (sources headers : List ℕ) (a b : ℕ → List (Option ℕ)) → ((f : ℕ) → is_found (a f) ≡ is_found (b f))
+same_answer : (setting : Setting) (listing : Listing) (sources : List Source) (headers : List ℕ) (a b : ℕ → List Start) → ((f : ℕ) → is_found (a f) ≡ is_found (b f))
     → ((f : ℕ) → entries_from setting listing (a f) f ≡ entries_from setting listing (b f) f)
     → graph_answer setting listing sources headers a ≡ graph_answer setting listing sources headers b
 same_answer setting listing sources headers a b same entries =
@@ -85,7 +86,7 @@ same_answer setting listing sources headers a b same entries =
     ∙ ap (λ (es : List Entry). graph_or_bad bads (length es) (graph_of_files setting listing sources headers a (inner_files listing b headers))) count
     ∙ ap (graph_or_bad bads (directive_count setting listing b (inner_files listing b headers))) (same_graph setting listing sources headers a b entries (inner_files listing b headers))
 
-pub one_graph : (setting : Setting) (listing : Listing) (sources headers : List ℕ) (a b : Result Graph GraphRefusal)
+pub one_graph : (setting : Setting) (listing : Listing) (sources : List Source) (headers : List ℕ) (a b : Result Graph GraphRefusal)
     → IsGraphAnswer setting listing sources headers a → IsGraphAnswer setting listing sources headers b → a ≡ b
 one_graph setting listing sources headers a b h k =
     sym h.2

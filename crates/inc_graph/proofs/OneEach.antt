@@ -4,15 +4,17 @@ use Rattle.std.specs.Prelude.{◌↔◌, ◌==◌, ◌&&◌, not, Contains, filt
 use Rattle.std.specs.List.{list_any, range_with_len}
 use Rattle.std.proofs.lemmas.Bool.{cases_eq, eq-eqb, eqb-false, ne_eqb}
 use Rattle.std.proofs.lemmas.List.Elements.{filter_agree, All-nil, All-cons}
-use Rattle.inc_graph.specs.Settings.{Setting}
+use Rattle.inc_graph.specs.Settings.{Setting, layouts_of}
+use Rattle.inc_graph.specs.declared.building.Source.{Source}
 use Rattle.inc_directive.specs.FileDirectives.{Directive}
 use Rattle.inc_lookup.specs.declared.projects.Found.{Found}
-use Rattle.inc_lookup.specs.Projects.{Listing, layout_of}
+use Rattle.inc_lookup.specs.Projects.{Listing}
 use Rattle.inc_graph.specs.Chains.{is_walk, files_on, is_chain_from, is_chain}
 use Rattle.inc_graph.specs.Cuts.{meets, IsNear}
-use Rattle.inc_graph.specs.IncludeGraph.{Edge, Graph, graph_directives, found_by, as_source, IsStep, IsTour, InClosure, is_found, inner_files, AreEnds}
+use Rattle.inc_graph.specs.IncludeGraph.{Edge, Graph, Start, graph_directives, found_by, as_source, IsStep, IsTour, InClosure, is_found, inner_files, AreEnds}
 use Rattle.inc_graph.specs.MarkedEdges.{is_reached}
 use Rattle.inc_graph.specs.Members.{is_member, is_distinct}
+use Rattle.inc_graph.proofs.LeadLemmas.{contains_first, contains_cases, contains_nothing}
 use Rattle.inc_graph.proofs.Members.{member_of_one, only_member, is_only}
 
 or_none : (b : Bool) → (b || false) ≡ b
@@ -29,26 +31,34 @@ one_member f one =
 
 ---- the closure
 
-pub one_closure_of : (setting : Setting) (listing : Listing) (source header f : ℕ)
-    → InClosure setting listing (source ∷ []) (header ∷ []) f
-    ↔ ((next : Option ℕ) × (tour : List Found) × IsTour setting listing (header ∷ []) (as_source source) tour (record { file = f; next = next }))
-one_closure_of setting listing source header f = (
-  λ c. (
-    c.next,
-    c.reached.tour,
-    subst (λ (a : ℕ). IsTour setting listing (header ∷ []) (as_source a) c.reached.tour (record { file = f; next = c.next })) (sym (only_member source c.reached.source c.reached.among)) c.reached.real,
-  ),
-  λ w. record { next = w.0; reached = record { source = source; among = is_only source source refl; tour = w.1; real = w.2 } },
+-- the source of a list of one
+only_source : (source path : ℕ) (s : Source) → Contains (record { file = source; path = path } ∷ []) s → record { file = source; path = path } ≡ s
+only_source source path s c = elim (contains_cases (record { file = source; path = path }) [] s c) [ inl is ↦ is | inr none ↦ absurd (contains_nothing s none) ]
+
+pub one_closure_of : (setting : Setting) (listing : Listing) (source path header f : ℕ)
+    → InClosure setting listing (record { file = source; path = path } ∷ []) (header ∷ []) f
+    ↔ ((next : Option ℕ) × (tour : List Found) × IsTour setting listing (header ∷ []) path (as_source source) tour (record { file = f; next = next }))
+one_closure_of setting listing source path header f = (
+  λ c.
+      let is = only_source source path (record { file = c.reached.source; path = c.start.path }) c.reached.among in (
+        c.start.next,
+        c.reached.tour,
+        subst (λ (s : Source). IsTour setting listing (header ∷ []) s.path (as_source s.file) c.reached.tour (record { file = f; next = c.start.next })) (sym is) c.reached.real,
+      ),
+  λ w. record {
+    start = record { path = path; next = w.0 };
+    reached = record { source = source; among = contains_first (record { file = source; path = path }) []; tour = w.1; real = w.2 };
+  },
 )
 
-pub one_step : (setting : Setting) (listing : Listing) (header : ℕ) (a b : Found) → IsStep setting listing (header ∷ []) a b
-    ↔ ((d : Directive) × Contains (graph_directives setting listing a.file) d × (found_by (layout_of listing) a d ≡ Some b) × (a.file ≢ header))
-one_step setting listing header a b = (
+pub one_step : (setting : Setting) (listing : Listing) (header path : ℕ) (a b : Found) → IsStep setting listing (header ∷ []) path a b
+    ↔ ((d : Directive) × Contains (graph_directives setting listing a.file) d × (found_by (layouts_of setting listing path) a d ≡ Some b) × (a.file ≢ header))
+one_step setting listing header path a b = (
   λ s. (s.directive, s.there, s.leads, eqb-false a.file header (sym (one_member a.file header) ∙ s.before)),
   λ w. record { directive = w.0; there = w.1; leads = w.2; before = one_member a.file header ∙ ne_eqb a.file header w.3 },
 )
 
-pub one_inner : (listing : Listing) (starts : ℕ → List (Option ℕ)) (header : ℕ) → inner_files listing starts (header ∷ []) ≡ filter (λ f. is_found (starts f) && not (f == header)) (range_with_len 0 (length listing.files))
+pub one_inner : (listing : Listing) (starts : ℕ → List Start) (header : ℕ) → inner_files listing starts (header ∷ []) ≡ filter (λ f. is_found (starts f) && not (f == header)) (range_with_len 0 (length listing.files))
 one_inner listing starts header =
     filter_agree (λ f. is_found (starts f) && not (is_member f (header ∷ []))) (λ f. is_found (starts f) && not (f == header)) (λ f. ap (λ b. is_found (starts f) && not b) (one_member f header)) (range_with_len 0 (length listing.files))
 

@@ -1,5 +1,5 @@
 -- The lists that are gathered are the parts of a graph.
-use Rattle.std.proofs.Common.{◌≡◌, ℕ, ◌<◌, ◌≤◌, Bool, false, not, ◌&&◌, List, [], ◌∷◌, Option, Result, Ok, Err, length, map, refl, ap, sym, subst, ◌∙◌, arith}
+use Rattle.std.proofs.Common.{◌≡◌, ℕ, ◌<◌, ◌≤◌, Bool, false, not, ◌&&◌, List, [], ◌∷◌, Result, Ok, Err, length, map, refl, ap, sym, subst, ◌∙◌, arith}
 use Rattle.std.specs.Prelude.{filter_map, flat_map, nat_lt}
 use Rattle.std.specs.List.{cons_option, All, list_any, range_with_len}
 use Rattle.std.specs.List.Sorted.{IsNonDecreasing}
@@ -7,6 +7,7 @@ use Rattle.std.proofs.lemmas.Bool.{and_parts, not-true, ltb-false}
 use Rattle.std.proofs.lemmas.List.Elements.{All-nil, All-cons, All-head, All-tail, All-append, All-filter, filter_passes}
 use Rattle.std.proofs.lemmas.List.FromFn.{length-range_with_len, get_or-range_with_len}
 use Rattle.inc_directive.specs.declared.files.FileFault.{FileFault}
+use Rattle.inc_graph.specs.declared.building.Source.{Source}
 use Rattle.inc_graph.specs.Members.{is_member}
 use Rattle.inc_graph.specs.Settings.{Setting}
 use Rattle.inc_graph.specs.MissingLists.{Missing}
@@ -17,7 +18,7 @@ use Rattle.inc_graph.specs.declared.building.entries.Entry.TheVariants as entry
 use Rattle.inc_graph.specs.declared.graphs.Blocker.{Blocker}
 use Rattle.inc_graph.specs.declared.graphs.Edge as declared
 use Rattle.inc_graph.specs.declared.graphs.Parts.{Parts}
-use Rattle.inc_graph.specs.IncludeGraph.{Edge, Graph, IsInner, AreEnds, IsSound, entry_edge, edges_from, missing_from, blockers_from, is_found, inner_files, is_defined_in, most_directives, graph_of_files}
+use Rattle.inc_graph.specs.IncludeGraph.{Edge, Graph, IsInner, AreEnds, IsSound, entry_edge, edges_from, missing_from, blockers_from, is_found, inner_files, is_defined_in, most_directives, graph_of_files, Start, source_files}
 use Rattle.inc_graph.specs.Entries.{file_entries}
 use Rattle.inc_graph.specs.Views.{seen_edge, seen_parts, AreParts}
 use Rattle.inc_graph.specs.ClosureSearch.{AreStates}
@@ -46,12 +47,12 @@ picked_lead : (P : ℕ → Type 0) (file : ℕ) (x : Result (List Entry) FileFau
 picked_lead P file (Ok es) h = edges_lead P file es (h es refl)
 picked_lead P file (Err line) h = All-nil (λ (e : Edge). P e.to)
 
-edges_within : (setting : Setting) (listing : Listing) (starts : List (Option ℕ)) (file : ℕ) → All (λ (e : Edge). e.to < length listing.files) (edges_from setting listing starts file)
+edges_within : (setting : Setting) (listing : Listing) (starts : List Start) (file : ℕ) → All (λ (e : Edge). e.to < length listing.files) (edges_from setting listing starts file)
 edges_within setting listing starts file =
     subst (λ es. All (λ (e : Edge). e.to < length listing.files) es) (picked_edges setting listing starts file)
     (picked_lead (λ to. to < length listing.files) file (file_entries setting listing starts file) (λ es q. entries_lead_within setting listing starts file es q))
 
-edges_inner : (setting : Setting) (listing : Listing) (headers : List ℕ) (starts : List (Option ℕ)) (file : ℕ) → file < length listing.files → is_member file headers ≡ false → All (IsInner (length listing.files) headers) (edges_from setting listing starts file)
+edges_inner : (setting : Setting) (listing : Listing) (headers : List ℕ) (starts : List Start) (file : ℕ) → file < length listing.files → is_member file headers ≡ false → All (IsInner (length listing.files) headers) (edges_from setting listing starts file)
 edges_inner setting listing headers starts file low ne = λ k d h.
     let from = edges_leave setting listing starts file k d h in
     record {
@@ -71,7 +72,7 @@ range_below n = λ k d h.
     let low : k < n = omega (arith, length-range_with_len 0 n) in
     omega (arith, get_or-range_with_len 0 n k d low)
 
-inner_within : (listing : Listing) (starts : ℕ → List (Option ℕ)) (headers : List ℕ) → All (λ f. (f < length listing.files) × (is_member f headers ≡ false)) (inner_files listing starts headers)
+inner_within : (listing : Listing) (starts : ℕ → List Start) (headers : List ℕ) → All (λ f. (f < length listing.files) × (is_member f headers ≡ false)) (inner_files listing starts headers)
 inner_within listing starts headers =
     let test : ℕ → Bool = λ f. is_found (starts f) && not (is_member f headers) in
     let n = length listing.files in
@@ -80,13 +81,13 @@ inner_within listing starts headers =
       not-true _ (and_parts _ _ (filter_passes test (range_with_len 0 n) k d h)).1,
     )
 
-all_inner : (setting : Setting) (listing : Listing) (starts : ℕ → List (Option ℕ)) (headers : List ℕ) → All (IsInner (length listing.files) headers) (flat_map (λ f. edges_from setting listing (starts f) f) (inner_files listing starts headers))
+all_inner : (setting : Setting) (listing : Listing) (starts : ℕ → List Start) (headers : List ℕ) → All (IsInner (length listing.files) headers) (flat_map (λ f. edges_from setting listing (starts f) f) (inner_files listing starts headers))
 all_inner setting listing starts headers =
     All-flat_map (IsInner (length listing.files) headers) (λ f. (f < length listing.files) × (is_member f headers ≡ false)) (λ f. edges_from setting listing (starts f) f)
     (λ f q. edges_inner setting listing headers (starts f) f q.0 q.1) (inner_files listing starts headers) (inner_within listing starts headers)
 
 -- what is in a file of the closure is in a file of the project
-all_within : {X : Type 0} (of : X → ℕ) (from : ℕ → List X) → ((f : ℕ) → All (λ x. of x ≡ f) (from f)) → (listing : Listing) (starts : ℕ → List (Option ℕ)) (headers : List ℕ)
+all_within : {X : Type 0} (of : X → ℕ) (from : ℕ → List X) → ((f : ℕ) → All (λ x. of x ≡ f) (from f)) → (listing : Listing) (starts : ℕ → List Start) (headers : List ℕ)
     → All (λ x. of x < length listing.files) (flat_map from (inner_files listing starts headers))
 all_within of from h listing starts headers =
     All-flat_map (λ x. of x < length listing.files) (λ f. (f < length listing.files) × (is_member f headers ≡ false)) from
@@ -98,8 +99,8 @@ from_seen (e ∷ es) = ap (◌∷◌ e.from) (from_seen es)
 
 ---- the parts
 
-sound_graph : (setting : Setting) (listing : Listing) (sources headers : List ℕ) (ss : List State) → (h : AreStates setting listing sources headers ss) → length listing.files ≤ MOST_FILES
-    → AreEnds (length listing.files) sources headers → total ss ≤ most_directives → IsSound (graph_of_files setting listing sources headers h.0 (inner_files listing h.0 headers))
+sound_graph : (setting : Setting) (listing : Listing) (sources : List Source) (headers : List ℕ) (ss : List State) → (h : AreStates setting listing sources headers ss) → length listing.files ≤ MOST_FILES
+    → AreEnds (length listing.files) (source_files sources) headers → total ss ≤ most_directives → IsSound (graph_of_files setting listing sources headers h.0 (inner_files listing h.0 headers))
 sound_graph setting listing sources headers ss h few ends sized =
     let g = graph_of_files setting listing sources headers h.0 (inner_files listing h.0 headers) in
     let order : InOrder 0 g.edges = in_order setting listing h.0 headers in
@@ -117,10 +118,10 @@ sound_graph setting listing sources headers ss h few ends sized =
           (λ f. blockers_stand setting listing (is_defined_in setting listing (inner_files listing h.0 headers)) (h.0 f) f) listing h.0 headers;
     }
 
-pub are_parts : (setting : Setting) (listing : Listing) (sources headers : List ℕ) (ss : List State) (p : Parts) → AreStates setting listing sources headers ss → length listing.files ≤ MOST_FILES
-    → AreEnds (length listing.files) sources headers → nat_lt most_directives (total ss) ≡ false → AreNumbered p
+pub are_parts : (setting : Setting) (listing : Listing) (sources : List Source) (headers : List ℕ) (ss : List State) (p : Parts) → AreStates setting listing sources headers ss → length listing.files ≤ MOST_FILES
+    → AreEnds (length listing.files) (source_files sources) headers → nat_lt most_directives (total ss) ≡ false → AreNumbered p
     → (defined : ℕ → Bool) (count : ℕ) → count ≡ length setting.undefined → ((name : ℕ) → defined name ≡ (nat_lt name count && list_any (state_defines name) ss))
-    → seen_parts p ≡ with_states defined (empty_graph (length listing.files) sources headers) 0 ss → AreParts p
+    → seen_parts p ≡ with_states defined (empty_graph (length listing.files) (source_files sources) headers) 0 ss → AreParts p
 are_parts setting listing sources headers ss p h few ends sized numbered defined count count_is flags same =
     let g = graph_of_files setting listing sources headers h.0 (inner_files listing h.0 headers) in
     let is : seen_parts p ≡ g = same ∙ graph_is setting listing sources headers h.0 ss h.2 defined (flags_agree setting listing h.0 headers ss h.2 defined count count_is flags) in

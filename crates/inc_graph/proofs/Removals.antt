@@ -10,14 +10,14 @@ use Rattle.inc_directive.specs.FileDirectives.{Directive, file_directives}
 use Rattle.inc_directive.specs.Removal.{is_removable, stays, without}
 use Rattle.inc_directive.specs.declared.files.FileFault.{FileFault}
 use Rattle.inc_lookup.specs.DirectiveLists.{is_listed}
-use Rattle.inc_lookup.specs.Projects.{Listing, layout_of, bytes_at}
+use Rattle.inc_lookup.specs.Projects.{Listing, bytes_at}
 use Rattle.inc_graph.specs.FileEntries.{Entry}
 use Rattle.inc_graph.specs.declared.building.entries.Entry.TheVariants as entry
 use Rattle.inc_graph.specs.declared.graphs.BlockerKind.TheVariants as kind
 use Rattle.inc_lookup.specs.declared.projects.Form.TheVariants as form
 use Rattle.inc_graph.specs.HeaderNames.{HeaderName, header_of}
-use Rattle.inc_graph.specs.IncludeGraph.{Edge, Lead, Nowhere, To, Several, leads, lead_entry, name_entry, undefined_place, entry_at, entry_of, entry_edge, entries_from, edges_from, graph_directives}
-use Rattle.inc_graph.specs.Settings.{Setting}
+use Rattle.inc_graph.specs.IncludeGraph.{Edge, Lead, Nowhere, To, Several, leads, lead_entry, name_entry, undefined_place, entry_at, entry_of, entry_edge, entries_from, edges_from, graph_directives, Start}
+use Rattle.inc_graph.specs.Settings.{Setting, layouts_of}
 use Rattle.inc_graph.proofs.LeadLemmas.{contains_nothing, contains_from}
 
 ---- nothing is removed
@@ -69,9 +69,9 @@ edge_stays names removed lead (Include by Computed) line e file x off is edge = 
 edge_stays names removed lead (Other Foreign) line e file x off is edge = absurd (none-some e (ap (entry_edge file) (same_Some (entry.Blocker line kind.Foreign) x is) ∙ edge))
 edge_stays names removed lead _ line e file x off is edge = absurd (none-some x is)
 
-pub edges_stay : (setting : Setting) (listing : Listing) (starts : List (Option ℕ)) (file : ℕ) (e : Edge) → Contains (edges_from setting listing starts file) e → is_listed setting.removed file e.line ≡ false
+pub edges_stay : (setting : Setting) (listing : Listing) (starts : List Start) (file : ℕ) (e : Edge) → Contains (edges_from setting listing starts file) e → is_listed setting.removed file e.line ≡ false
 edges_stay setting listing starts file e among =
     let x = contains_from (entry_edge file) (entries_from setting listing starts file) e among in
-    let d = contains_from (entry_of setting.undefined (layout_of listing) starts file) (graph_directives setting listing file) x.0 x.1 in
-    edge_stays setting.undefined (is_listed setting.removed file) (leads (layout_of listing) starts file d.0) d.0.kind d.0.line e file x.0
+    let d = contains_from (entry_of setting.undefined (layouts_of setting listing) starts file) (graph_directives setting listing file) x.0 x.1 in
+    edge_stays setting.undefined (is_listed setting.removed file) (leads (layouts_of setting listing) starts file d.0) d.0.kind d.0.line e file x.0
     (stay_in (is_listed setting.removed file) (file_directives setting.language (phase_text setting.language (bytes_at listing file))) d.0 d.1) d.2 x.2

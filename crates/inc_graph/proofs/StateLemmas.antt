@@ -1,6 +1,6 @@
 -- What is known of each file, by the places of the records.
-use Rattle.std.proofs.Common.{◌≡◌, ◌≢◌, ℕ, zero, suc, ◌<◌, List, [], ◌∷◌, ◌++◌, Option, Some, None, length, get_or, set, replicate, inl, inr, refl, sym, ap, ◌∙◌, arith, get_or-set_same, get_or-set_other, length-set}
-use Rattle.std.specs.Prelude.{Vec, slice_get, slice_index_or}
+use Rattle.std.proofs.Common.{◌≡◌, ◌≢◌, ℕ, zero, suc, ◌<◌, List, [], ◌∷◌, ◌++◌, Option, Some, None, length, get_or, set, replicate, inl, inr, refl, sym, ap, ◌∙◌, arith, get_or-set_same, get_or-set_other, length-set, length-append}
+use Rattle.std.specs.Prelude.{◌≤◌, Vec, map, option_map, slice_get, slice_index_or}
 use Rattle.std.specs.Global.{Global}
 use Rattle.std.specs.List.{All}
 use Rattle.std.proofs.lemmas.Bool.{cases_eq}
@@ -13,7 +13,7 @@ use Rattle.inc_graph.specs.declared.building.file_entries.FileState.{FileState}
 use Rattle.inc_graph.specs.declared.building.file_entries.FileState.TheVariants.{Unread, Read, Bad}
 use Rattle.inc_graph.specs.Entries.{seen_state, states_at, AreRecords}
 use Rattle.inc_graph.specs.GraphLists.{State}
-use Rattle.inc_graph.specs.Nexts.{Next, lists_at, led_state}
+use Rattle.inc_graph.specs.Nexts.{Direct, Next, kept_at, list_at, lists_at, led_state}
 use Rattle.inc_graph.proofs.Lists.{push_last}
 
 none_read : (count : ℕ) → states_at (Unread ∷ []) (replicate count 0) ≡ replicate count None
@@ -119,30 +119,69 @@ led_none (Bad line) index to other = refl
 
 ---- lists of #include_next directives
 
-none_kept : (count : ℕ) (first : Vec Next Global) → first.items ≡ [] → lists_at (first ∷ []) (replicate count 0) ≡ replicate count []
-none_kept zero first empty = refl
-none_kept (suc count) first empty = ap (λ x. x ∷ lists_at (first ∷ []) (replicate count 0)) empty ∙ ap (◌∷◌ []) (none_kept count first empty)
+none_kept : (count : ℕ) (lists : List (Vec Next Global)) → lists_at lists (replicate count 0) ≡ replicate count None
+none_kept zero lists = refl
+none_kept (suc count) lists = ap (λ ls. None ∷ ls) (none_kept count lists)
 
--- of files that share an empty one
-pub no_lists : (count : ℕ) (lists : List (Vec Next Global)) (places : List ℕ) (first : Vec Next Global) → lists ≡ first ∷ [] → first.items ≡ [] → places ≡ replicate count 0 → lists_at lists places ≡ replicate count []
-no_lists count lists places first one empty none = rw (one, none) (none_kept count first empty)
+-- of files of which none was looked up
+pub no_lists : (count : ℕ) (lists : List (Vec Next Global)) (places : List ℕ) → places ≡ replicate count 0 → lists_at lists places ≡ replicate count None
+no_lists count lists places none = ap (lists_at lists) none ∙ none_kept count lists
 
 get_kept : (lists : List (Vec Next Global)) (more : Vec Next Global) (k : ℕ) → k < length lists → slice_get (lists ++ more ∷ []) k ≡ slice_get lists k
 get_kept [] more k low = absurd (omega arith)
 get_kept (x ∷ xs) more zero low = refl
 get_kept (x ∷ xs) more (suc k) low = get_kept xs more k (omega arith)
 
-same_lists : (lists : List (Vec Next Global)) (more : Vec Next Global) (places : List ℕ) → All (λ k. k < length lists) places → lists_at (lists ++ more ∷ []) places ≡ lists_at lists places
+same_list : (lists : List (Vec Next Global)) (more : Vec Next Global) (k : ℕ) → k ≤ length lists → list_at (lists ++ more ∷ []) k ≡ list_at lists k
+same_list lists more zero low = refl
+same_list lists more (suc k) low = ap (option_map (λ (list : Vec Next Global). list.items)) (get_kept lists more k (omega arith))
+
+same_lists : (lists : List (Vec Next Global)) (more : Vec Next Global) (places : List ℕ) → All (λ k. k ≤ length lists) places → lists_at (lists ++ more ∷ []) places ≡ lists_at lists places
 same_lists lists more [] within = refl
 same_lists lists more (k ∷ ks) within =
-    ap (λ (o : Option (Vec Next Global)). elim o [ Some list ↦ list.items | None ↦ [] ] ∷ lists_at (lists ++ more ∷ []) ks) (get_kept lists more k (All-head (λ k. k < length lists) k ks within))
-    ∙ ap (λ ls. elim (slice_get lists k) [ Some list ↦ list.items | None ↦ [] ] ∷ ls) (same_lists lists more ks (All-tail (λ k. k < length lists) k ks within))
+    ap (λ o. o ∷ lists_at (lists ++ more ∷ []) ks) (same_list lists more k (All-head (λ k. k ≤ length lists) k ks within))
+    ∙ ap (λ ls. list_at lists k ∷ ls) (same_lists lists more ks (All-tail (λ k. k ≤ length lists) k ks within))
 
 -- a file takes the list that was added
-pub lists_set : (lists after : List (Vec Next Global)) (list : Vec Next Global) (places : List ℕ) (file at place : ℕ) → after ≡ lists ++ list ∷ [] → All (λ k. k < length lists) places → place ≡ length lists → at ≡ file
-    → lists_at after (set places at place) ≡ set (lists_at lists places) file list.items
+pub lists_set : (lists after : List (Vec Next Global)) (list : Vec Next Global) (places : List ℕ) (file at place : ℕ) → after ≡ lists ++ list ∷ [] → All (λ k. k ≤ length lists) places → place ≡ length after → at ≡ file
+    → lists_at after (set places at place) ≡ set (lists_at lists places) file (Some list.items)
 lists_set lists after list places file at place more within last same =
-    rw (more, same) (
-    map-set (λ (k : ℕ). elim (slice_get (lists ++ list ∷ []) k) [ Some l ↦ l.items | None ↦ [] ]) places file place
-    ∙ ap (λ ls. set ls file (elim (slice_get (lists ++ list ∷ []) place) [ Some l ↦ l.items | None ↦ [] ])) (same_lists lists list places within)
-    ∙ ap (λ (o : Option (Vec Next Global)). set (lists_at lists places) file (elim o [ Some l ↦ l.items | None ↦ [] ])) (ap (slice_get (lists ++ list ∷ [])) last ∙ push_last lists list))
+    let place_is : place ≡ suc (length lists) = omega (arith, last, ap (λ (l : List (Vec Next Global)). length l) more, length-append lists (list ∷ [])) in
+    rw (more, same, place_is) (
+    map-set (list_at (lists ++ list ∷ [])) places file (suc (length lists))
+    ∙ ap (λ ls. set ls file (option_map (λ (l : Vec Next Global). l.items) (slice_get (lists ++ list ∷ []) (length lists)))) (same_lists lists list places within)
+    ∙ ap (λ (o : Option (Vec Next Global)). set (lists_at lists places) file (option_map (λ (l : Vec Next Global). l.items) o)) (push_last lists list))
+
+-- the list of a file
+pub list_is : (lists : List (Vec Next Global)) (places : List ℕ) (file : ℕ) → file < length places → get_or (lists_at lists places) file None ≡ list_at lists (get_or places file 0)
+list_is lists places file low = get_or-map (list_at lists) places file 0 None low
+
+---- lists of direct include directives
+
+no_directs : (count : ℕ) (lists : List (List Direct)) → map (kept_at lists) (replicate count 0) ≡ replicate count []
+no_directs zero lists = refl
+no_directs (suc count) lists = ap (λ ls. [] ∷ ls) (no_directs count lists)
+
+-- of files of which none is read
+pub directs_none : (count : ℕ) (lists : List (List Direct)) (places : List ℕ) → places ≡ replicate count 0 → map (kept_at lists) places ≡ replicate count []
+directs_none count lists places none = ap (map (kept_at lists)) none ∙ no_directs count lists
+
+same_kept : (lists : List (List Direct)) (more : List Direct) (k : ℕ) → k ≤ length lists → kept_at (lists ++ more ∷ []) k ≡ kept_at lists k
+same_kept lists more zero low = refl
+same_kept lists more (suc k) low = get_or_append_left lists (more ∷ []) [] k (omega arith)
+
+all_kept : (lists : List (List Direct)) (more : List Direct) (places : List ℕ) → All (λ k. k ≤ length lists) places → map (kept_at (lists ++ more ∷ [])) places ≡ map (kept_at lists) places
+all_kept lists more [] within = refl
+all_kept lists more (k ∷ ks) within =
+    ap (λ o. o ∷ map (kept_at (lists ++ more ∷ [])) ks) (same_kept lists more k (All-head (λ k. k ≤ length lists) k ks within))
+    ∙ ap (λ ls. kept_at lists k ∷ ls) (all_kept lists more ks (All-tail (λ k. k ≤ length lists) k ks within))
+
+-- a file takes the list that was added
+pub directs_set : (lists after : List (List Direct)) (list : List Direct) (places : List ℕ) (file at place : ℕ) → after ≡ lists ++ list ∷ [] → All (λ k. k ≤ length lists) places → place ≡ length after → at ≡ file
+    → map (kept_at after) (set places at place) ≡ set (map (kept_at lists) places) file list
+directs_set lists after list places file at place more within last same =
+    let place_is : place ≡ suc (length lists) = omega (arith, last, ap (λ (l : List (List Direct)). length l) more, length-append lists (list ∷ [])) in
+    rw (more, same, place_is) (
+    map-set (kept_at (lists ++ list ∷ [])) places file (suc (length lists))
+    ∙ ap (λ ls. set ls file (get_or (lists ++ list ∷ []) (length lists) [])) (all_kept lists list places within)
+    ∙ ap (set (map (kept_at lists) places) file) (get_or_push lists list [] (length lists) refl))

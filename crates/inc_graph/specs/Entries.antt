@@ -2,12 +2,12 @@
 use Rattle.std.specs.Prelude.{◌≡◌, ◌≢◌, ℕ, ◌<◌, ◌++◌, List, [], Option, Some, None, Result, Ok, Err, length, filter_map, map, slice_get, slice_index, slice_index_or}
 use Rattle.std.specs.List.{All}
 use Rattle.inc_text.specs.PhaseText.{phase_text}
-use Rattle.inc_graph.specs.Settings.{Setting}
+use Rattle.inc_graph.specs.Settings.{Setting, layouts_of}
 use Rattle.inc_directive.specs.FileDirectives.{Directive}
 use Rattle.inc_directive.specs.declared.files.FileFault.{FileFault}
 use Rattle.inc_lookup.specs.declared.projects.Found.{Found}
-use Rattle.inc_lookup.specs.Projects.{Layout, Listing, layout_of, bytes_at}
-use Rattle.inc_graph.specs.IncludeGraph.{Named, Lead, Nowhere, with_found, text_definitions, text_directives, entry_of, found_by}
+use Rattle.inc_lookup.specs.Projects.{Layout, Listing, bytes_at}
+use Rattle.inc_graph.specs.IncludeGraph.{Named, Lead, Nowhere, Start, with_found, text_definitions, text_directives, entry_at, entry_of, found_by}
 use Rattle.inc_graph.specs.FileEntries.{Entry}
 use Rattle.inc_graph.specs.declared.building.entries.Entry.TheVariants as entry
 use Rattle.inc_graph.specs.declared.building.file_entries.Direct.{Direct}
@@ -22,19 +22,25 @@ seen_direct d = record { by = d.by; form = d.header.form; name = d.header.name.n
 abbrev pub found_lead : Option Found → Lead
 found_lead found = with_found found Nowhere
 
--- the include directives of a file with these directives, which is found in these ways, and after them the places of the names that it
+-- what an include directive is of a file that is found so and in no other way
+abbrev pub entry_alone : (names : List (List ℕ)) → Layout → Found → Directive → Option Entry
+entry_alone names layout at d = entry_at names (found_lead (found_by layout at d)) d.kind d.line
+
+-- the include directives of a file with these directives, each as it is given, and after them the places of the names that the file
 -- defines among those that no build defines; or its fault
-abbrev pub entries_of : (names : List (List ℕ)) → Layout → (starts : List (Option ℕ)) → ℕ → (places : List ℕ) → Result (List Directive) FileFault → Result (List Entry) FileFault
-entries_of names layout starts file places (Ok directives) = Ok (filter_map (entry_of names layout starts file) directives ++ map entry.Defines places)
-entries_of names layout starts file places (Err fault) = Err fault
+abbrev pub entries_of : (what : Directive → Option Entry) → (places : List ℕ) → Result (List Directive) FileFault → Result (List Entry) FileFault
+entries_of what places (Ok directives) = Ok (filter_map what directives ++ map entry.Defines places)
+entries_of what places (Err fault) = Err fault
 
 -- those of a file with these bytes
-abbrev pub bytes_entries : Setting → Layout → (starts : List (Option ℕ)) → ℕ → List ℕ → Result (List Entry) FileFault
-bytes_entries setting layout starts file bytes =
-    entries_of setting.undefined layout starts file (text_definitions setting (phase_text setting.language bytes)) (text_directives setting file (phase_text setting.language bytes))
+abbrev pub bytes_entries : Setting → (what : Directive → Option Entry) → ℕ → List ℕ → Result (List Entry) FileFault
+bytes_entries setting what file bytes =
+    entries_of what (text_definitions setting (phase_text setting.language bytes)) (text_directives setting file (phase_text setting.language bytes))
 
-abbrev pub file_entries : Setting → Listing → (starts : List (Option ℕ)) → ℕ → Result (List Entry) FileFault
-file_entries setting listing starts file = bytes_entries setting (layout_of listing) starts file (bytes_at listing file)
+-- those of a file that is found in these ways
+abbrev pub file_entries : Setting → Listing → (starts : List Start) → ℕ → Result (List Entry) FileFault
+file_entries setting listing starts file =
+    bytes_entries setting (entry_of setting.undefined (layouts_of setting listing) starts file) file (bytes_at listing file)
 
 -- what the directives of a file find that is found so
 abbrev pub directives_found : Layout → Found → Result (List Directive) FileFault → List Found

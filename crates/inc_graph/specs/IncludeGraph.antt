@@ -1,12 +1,15 @@
 -- The include graph of a project. Edges are the direct include directives that lead to one file (ISO/IEC 9899:2018, 6.10.2),
 -- in whatever group they are. Which files the graph looks at is a relation by steps: no search is in these definitions. A step depends
 -- on how its file was found, since an #include_next looks on from there; an edge is one of the file, however that was found.
-use Rattle.std.specs.Prelude.{◌≡◌, ◌≢◌, ℕ, ◌+◌, ◌<◌, ◌≤◌, ◌==◌, ◌&&◌, ◌||◌, not, Bool, true, false, List, [], ◌∷◌, Option, Some, None, Result, Ok, Err, if◌then◌else◌, length, filter, filter_map, flat_map, nat_lt, bytes_eq, option_and_then, position, IsTrue, ◌↔◌, Contains, ⊤}
+--
+-- A source is read with an include path, and so is all that steps from it lead to. Where sources have several, the graph is the union of
+-- those of each include path: a directive to which two of them give different files is no edge and stops.
+use Rattle.std.specs.Prelude.{◌≡◌, ◌≢◌, ℕ, ◌+◌, ◌<◌, ◌≤◌, ◌==◌, ◌&&◌, ◌||◌, not, Bool, true, false, List, [], ◌∷◌, Option, Some, None, Result, Ok, Err, if◌then◌else◌, ◌++◌, fold, length, filter, filter_map, flat_map, nat_lt, bytes_eq, option_and_then, position, IsTrue, ◌↔◌, Contains, ⊤}
 use Rattle.std.specs.List.{All, list_all, list_any, range_with_len}
 use Rattle.std.specs.List.Sorted.{IsStrictlyIncreasing}
 use Rattle.inc_text.specs.PhaseText.{Cell, phase_text}
 use Rattle.inc_graph.specs.Members.{is_member}
-use Rattle.inc_graph.specs.Settings.{Setting}
+use Rattle.inc_graph.specs.Settings.{Setting, layouts_of}
 use Rattle.inc_token.specs.declared.kinds.IncludeName.{IncludeName}
 use Rattle.inc_token.specs.LineWalk.{lines_or_none}
 use Rattle.inc_token.specs.TokenLines.{token_lines}
@@ -19,7 +22,7 @@ use Rattle.inc_directive.specs.declared.files.FileFault.{FileFault}
 use Rattle.inc_lookup.specs.declared.projects.Form.{Form}
 use Rattle.inc_lookup.specs.declared.projects.Form.TheVariants as form
 use Rattle.inc_lookup.specs.declared.projects.Found.{Found}
-use Rattle.inc_lookup.specs.Projects.{Layout, Listing, layout_of, path_at, bytes_at, found_place}
+use Rattle.inc_lookup.specs.Projects.{Layout, Listing, path_at, bytes_at, found_place}
 use Rattle.inc_lookup.specs.DirectiveLists.{is_listed}
 use Rattle.inc_lookup.specs.declared.projects.TheConstants.{MOST_FILES}
 use Rattle.inc_graph.specs.HeaderNames.{HeaderName, header_of}
@@ -30,6 +33,7 @@ use Rattle.inc_graph.specs.declared.graphs.BlockerKind.TheVariants as kind
 use Rattle.inc_graph.specs.FileEntries.{Entry}
 use Rattle.inc_graph.specs.declared.building.entries.Entry.TheVariants as entry
 use Rattle.inc_graph.specs.declared.building.GraphRefusal.{GraphRefusal}
+use Rattle.inc_graph.specs.declared.building.Source.{Source}
 use Rattle.inc_graph.specs.declared.building.GraphRefusal.TheVariants.{BadFile, TooManyDirectives, CannotRead, FileTooLong}
 use Rattle.inc_graph.specs.declared.building.gathering.TheConstants.{MOST_DIRECTIVES}
 
@@ -114,11 +118,20 @@ abbrev pub with_found : Option Found → Lead → Lead
 with_found None lead = lead
 with_found (Some f) lead = with_target lead f.file
 
--- the files to which a direct include directive leads from its file, which is found in these ways: each is where an #include_next in it
--- goes on. Other directives than #include_next lead from each of them to the same file
-abbrev pub leads : Layout → (starts : List (Option ℕ)) → (file : ℕ) → Directive → Lead
-leads layout [] file d = Nowhere
-leads layout (next ∷ starts) file d = with_found (found_by layout (record { file = file; next = next }) d) (leads layout starts file d)
+-- a way in which a file is found: in the include path of this number, and where an #include_next in it goes on
+pub record Start : Type 0 where
+  pub path : ℕ
+  pub next : Option ℕ
+
+-- a file that is found so, as its include path has it
+abbrev pub found_so : (file : ℕ) → Start → Found
+found_so file start = record { file = file; next = start.next }
+
+-- the files to which a direct include directive leads from its file, which is found in these ways. From those of one include path all
+-- but an #include_next lead to the same file
+abbrev pub leads : (layouts : ℕ → Layout) → (starts : List Start) → (file : ℕ) → Directive → Lead
+leads layouts [] file d = Nowhere
+leads layouts (start ∷ starts) file d = with_found (found_by (layouts start.path) (found_so file start) d) (leads layouts starts file d)
 
 ---- what an include directive is to the graph
 
@@ -148,13 +161,13 @@ entry_at names lead (Include by Computed) line = Some (entry.Blocker line kind.C
 entry_at names lead (Other Foreign) line = Some (entry.Blocker line kind.Foreign)
 entry_at names lead _ line = None
 
-abbrev pub entry_of : (names : List (List ℕ)) → Layout → (starts : List (Option ℕ)) → (file : ℕ) → Directive → Option Entry
-entry_of names layout starts file d = entry_at names (leads layout starts file d) d.kind d.line
+abbrev pub entry_of : (names : List (List ℕ)) → (layouts : ℕ → Layout) → (starts : List Start) → (file : ℕ) → Directive → Option Entry
+entry_of names layouts starts file d = entry_at names (leads layouts starts file d) d.kind d.line
 
 -- the include directives of a file that is found in these ways, from the top
-abbrev pub entries_from : Setting → Listing → (starts : List (Option ℕ)) → ℕ → List Entry
+abbrev pub entries_from : Setting → Listing → (starts : List Start) → ℕ → List Entry
 entries_from setting listing starts file =
-    filter_map (entry_of setting.undefined (layout_of listing) starts file) (graph_directives setting listing file)
+    filter_map (entry_of setting.undefined (layouts_of setting listing) starts file) (graph_directives setting listing file)
 
 abbrev pub entry_edge : ℕ → Entry → Option Edge
 entry_edge file (entry.Edge to line) = Some (record { from = file; to = to; line = line })
@@ -173,70 +186,83 @@ entry_blocker defined file (entry.ByName name line) =
 entry_blocker defined file _ = None
 
 -- the edges that leave a file, from the top
-abbrev pub edges_from : Setting → Listing → (starts : List (Option ℕ)) → ℕ → List Edge
+abbrev pub edges_from : Setting → Listing → (starts : List Start) → ℕ → List Edge
 edges_from setting listing starts file = filter_map (entry_edge file) (entries_from setting listing starts file)
 
 -- its directives that lead nowhere
-abbrev pub missing_from : Setting → Listing → (starts : List (Option ℕ)) → ℕ → List Missing
+abbrev pub missing_from : Setting → Listing → (starts : List Start) → ℕ → List Missing
 missing_from setting listing starts file = filter_map (entry_missing file) (entries_from setting listing starts file)
 
 -- those that leave open which file is read, where files define the names at these places among those that no build defines
-abbrev pub blockers_from : Setting → Listing → (defined : ℕ → Bool) → (starts : List (Option ℕ)) → ℕ → List Blocker
+abbrev pub blockers_from : Setting → Listing → (defined : ℕ → Bool) → (starts : List Start) → ℕ → List Blocker
 blockers_from setting listing defined starts file = filter_map (entry_blocker defined file) (entries_from setting listing starts file)
 
 ---- the closure of sources and headers
 
--- an include directive leads from a file, as it was found, to a file, as this directive finds it; the first is no header
-pub record IsStep (setting : Setting) (listing : Listing) (headers : List ℕ) (a b : Found) : Type 0 where
+-- in an include path a directive leads from a file, as it was found, to a file, as this directive finds it; the first is no header
+pub record IsStep (setting : Setting) (listing : Listing) (headers : List ℕ) (path : ℕ) (a b : Found) : Type 0 where
   pub directive : Directive
   -- it is one of the file
   pub there : Contains (graph_directives setting listing a.file) directive
   -- it finds the other
-  pub leads : found_by (layout_of listing) a directive ≡ Some b
+  pub leads : found_by (layouts_of setting listing path) a directive ≡ Some b
   -- the file is no header
   pub before : is_member a.file headers ≡ false
 
--- steps from one file to another, each from where the one before it leads
-abbrev pub IsTour : Setting → Listing → (headers : List ℕ) → Found → List Found → Found → Type 0
-IsTour setting listing headers a [] b = a ≡ b
-IsTour setting listing headers a (c ∷ cs) b = IsStep setting listing headers a c × IsTour setting listing headers c cs b
+-- steps from one file to another, each from where the one before it leads, all in one include path
+abbrev pub IsTour : Setting → Listing → (headers : List ℕ) → (path : ℕ) → Found → List Found → Found → Type 0
+IsTour setting listing headers path a [] b = a ≡ b
+IsTour setting listing headers path a (c ∷ cs) b = IsStep setting listing headers path a c × IsTour setting listing headers path c cs b
 
 -- a source, as it is found: in it an #include_next looks as an #include does
 abbrev pub as_source : ℕ → Found
 as_source file = record { file = file; next = None }
 
--- steps from a source lead to a file that is found so
-pub record IsReached (setting : Setting) (listing : Listing) (sources headers : List ℕ) (at : Found) : Type 0 where
+-- in an include path steps from a source of it lead to a file that is found so
+pub record IsReached (setting : Setting) (listing : Listing) (sources : List Source) (headers : List ℕ) (path : ℕ) (at : Found) : Type 0 where
   -- where they begin
   pub source : ℕ
-  -- which is a source
-  pub among : is_member source sources ≡ true
+  -- which is a source that is read with this include path
+  pub among : Contains sources (record { file = source; path = path })
   -- where they lead, one after the other
   pub tour : List Found
   -- the last to the file
-  pub real : IsTour setting listing headers (as_source source) tour at
+  pub real : IsTour setting listing headers path (as_source source) tour at
+
+-- a file is found in this way
+abbrev pub IsFoundSo : Setting → Listing → (sources : List Source) → (headers : List ℕ) → (file : ℕ) → Start → Type 0
+IsFoundSo setting listing sources headers file start = IsReached setting listing sources headers start.path (found_so file start)
 
 -- a file is in the closure where it is found somehow
-pub record InClosure (setting : Setting) (listing : Listing) (sources headers : List ℕ) (file : ℕ) : Type 0 where
-  -- where an #include_next in it goes on
-  pub next : Option ℕ
+pub record InClosure (setting : Setting) (listing : Listing) (sources : List Source) (headers : List ℕ) (file : ℕ) : Type 0 where
+  -- in which include path, and where an #include_next in it goes on
+  pub start : Start
   -- it is found so
-  pub reached : IsReached setting listing sources headers (record { file = file; next = next })
+  pub reached : IsFoundSo setting listing sources headers file start
 
--- these are the ways in which each file is found, in any order: for each where an #include_next in it goes on
-abbrev pub IsClosure : Setting → Listing → (sources headers : List ℕ) → (starts : ℕ → List (Option ℕ)) → Type 0
-IsClosure setting listing sources headers starts = (at : Found) → Contains (starts at.file) at.next ↔ IsReached setting listing sources headers at
+-- these are the ways in which each file is found, in any order
+abbrev pub IsClosure : Setting → Listing → (sources : List Source) → (headers : List ℕ) → (starts : ℕ → List Start) → Type 0
+IsClosure setting listing sources headers starts =
+    (file : ℕ) (start : Start) → Contains (starts file) start ↔ IsFoundSo setting listing sources headers file start
 
 -- a file is found somehow
-abbrev pub is_found : (starts : List (Option ℕ)) → Bool
+abbrev pub is_found : (starts : List Start) → Bool
 is_found [] = false
-is_found (next ∷ starts) = true
+is_found (start ∷ starts) = true
 
 -- the closure files that are no headers, in the order of the list
-abbrev pub inner_files : Listing → (starts : ℕ → List (Option ℕ)) → (headers : List ℕ) → List ℕ
+abbrev pub inner_files : Listing → (starts : ℕ → List Start) → (headers : List ℕ) → List ℕ
 inner_files listing starts headers = filter (λ f. is_found (starts f) && not (is_member f headers)) (range_with_len 0 (length listing.files))
 
 ---- the graph
+
+-- files, and that of one more source unless it is among them
+abbrev pub with_source : List ℕ → Source → List ℕ
+with_source files s = if is_member s.file files then files else files ++ s.file ∷ []
+
+-- the files of sources, each once, where it comes first
+abbrev pub source_files : List Source → List ℕ
+source_files sources = fold with_source [] sources
 
 -- so many files, the sources and the headers among them, the edges between them, and what its files hold beside edges, in order
 -- of file and line
@@ -267,10 +293,10 @@ abbrev pub sized_graph : ℕ → Graph → Result Graph GraphRefusal
 sized_graph count g = if nat_lt most_directives count then Err TooManyDirectives else Ok g
 
 -- the graph of these files, which are in the order of the list
-abbrev pub graph_of_files : Setting → Listing → (sources headers : List ℕ) → (starts : ℕ → List (Option ℕ)) → List ℕ → Graph
+abbrev pub graph_of_files : Setting → Listing → (sources : List Source) → (headers : List ℕ) → (starts : ℕ → List Start) → List ℕ → Graph
 graph_of_files setting listing sources headers starts files = record {
   files = length listing.files;
-  sources = sources;
+  sources = source_files sources;
   headers = headers;
   edges = flat_map (λ f. edges_from setting listing (starts f) f) files;
   missing = flat_map (λ f. missing_from setting listing (starts f) f) files;
@@ -278,7 +304,7 @@ graph_of_files setting listing sources headers starts files = record {
 }
 
 -- how many directives these files have
-abbrev pub directive_count : Setting → Listing → (starts : ℕ → List (Option ℕ)) → List ℕ → ℕ
+abbrev pub directive_count : Setting → Listing → (starts : ℕ → List Start) → List ℕ → ℕ
 directive_count setting listing starts files = length (flat_map (λ f. entries_from setting listing (starts f) f) files)
 
 -- a bad file, the first of the list, comes before too many directives
@@ -287,16 +313,16 @@ graph_or_bad (bad ∷ more) count g = Err (BadFile bad.0 bad.1)
 graph_or_bad [] count g = sized_graph count g
 
 -- the graph, or the refusal in its place; `starts` are the ways in which each file is found
-abbrev pub graph_answer : Setting → Listing → (sources headers : List ℕ) → (starts : ℕ → List (Option ℕ)) → Result Graph GraphRefusal
+abbrev pub graph_answer : Setting → Listing → (sources : List Source) → (headers : List ℕ) → (starts : ℕ → List Start) → Result Graph GraphRefusal
 graph_answer setting listing sources headers starts =
     let files : List ℕ = inner_files listing starts headers in
     graph_or_bad (filter_map (bad_file setting listing) files) (directive_count setting listing starts files)
     (graph_of_files setting listing sources headers starts files)
 
 -- this is the graph of sources and headers, or the refusal in its place
-abbrev pub IsGraphAnswer : Setting → Listing → (sources headers : List ℕ) → Result Graph GraphRefusal → Type 0
+abbrev pub IsGraphAnswer : Setting → Listing → (sources : List Source) → (headers : List ℕ) → Result Graph GraphRefusal → Type 0
 IsGraphAnswer setting listing sources headers answer =
-    (starts : ℕ → List (Option ℕ)) × IsClosure setting listing sources headers starts × (graph_answer setting listing sources headers starts ≡ answer)
+    (starts : ℕ → List Start) × IsClosure setting listing sources headers starts × (graph_answer setting listing sources headers starts ≡ answer)
 
 -- no directive leads to several files, by how its own file is found
 abbrev pub LeadsToOne : Graph → Type 0
@@ -337,6 +363,26 @@ pub record AreEnds (files : ℕ) (sources headers : List ℕ) : Type 0 where
   -- the sources are in the order of the list, and none is there twice
   pub sources_rise : IsStrictlyIncreasing sources
   -- and so are the headers
+  pub headers_rise : IsStrictlyIncreasing headers
+  -- there is a source or a header
+  pub some_end : 0 < length sources + length headers
+
+-- the files of sources are in the order of the list; one may be there with several include paths
+abbrev pub are_rising : List Source → Bool
+are_rising [] = true
+are_rising (s ∷ ss) = list_all (λ (t : Source). not (nat_lt t.file s.file)) ss && are_rising ss
+
+-- sources and headers that are asked about, in a project of so many files and where there are so many include paths
+pub record AreAsked (files paths : ℕ) (sources : List Source) (headers : List ℕ) : Type 0 where
+  -- the sources are some of the files
+  pub sources_within : All (λ (s : Source). s.file < files) sources
+  -- and are read with one of the include paths
+  pub paths_within : All (λ (s : Source). s.path < paths) sources
+  -- they are in the order of the list
+  pub sources_rise : IsTrue (are_rising sources)
+  -- the headers are some of the files
+  pub headers_within : All (λ f. f < files) headers
+  -- so are they, and none is there twice
   pub headers_rise : IsStrictlyIncreasing headers
   -- there is a source or a header
   pub some_end : 0 < length sources + length headers

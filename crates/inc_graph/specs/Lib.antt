@@ -13,6 +13,7 @@ pub mod Cuts
 pub mod Marks
 pub mod MarkedEdges
 pub mod ReadFiles
+pub mod OnePath
 pub mod Views
 pub mod Search
 pub mod PathOrder

@@ -1,5 +1,6 @@
--- The #include_next directives of the files that are read, and what a further way in which their file is found makes of them.
-use Rattle.std.specs.Prelude.{ℕ, ◌+◌, ◌==◌, ◌++◌, Bool, false, leb, List, [], ◌∷◌, Option, Some, None, Result, Ok, Err, Vec, drop, fold, map, slice_get, filter_map, if◌then◌else◌}
+-- The direct include directives of the files that are read, and what a further way in which their file is found makes of them: in the same
+-- include path of those that are #include_next, and in another one of all.
+use Rattle.std.specs.Prelude.{ℕ, zero, suc, ◌+◌, ◌==◌, ◌++◌, Bool, false, leb, List, [], ◌∷◌, Option, Some, None, Result, Ok, Err, Vec, drop, flat_map, fold, map, option_map, slice_get, slice_index_or, filter_map, if◌then◌else◌}
 use Rattle.std.specs.List.Sorted.{IsPartitionedBy}
 use Rattle.std.specs.Global.{Global}
 use Rattle.std.specs.List.{slice_set}
@@ -18,7 +19,10 @@ use Rattle.inc_graph.specs.declared.building.entries.Entry as declared_entry
 use Rattle.inc_graph.specs.FileEntries.{Entry}
 use Rattle.inc_graph.specs.declared.building.entries.Entry.TheVariants as entry
 use Rattle.inc_graph.specs.declared.graphs.BlockerKind.TheVariants as kind
-use Rattle.inc_graph.specs.IncludeGraph.{Named, direct_header, text_directives}
+use Rattle.inc_graph.specs.HeaderNames.{HeaderName, name_at}
+use Rattle.inc_graph.specs.IncludeGraph.{Named, direct_header, named_place, text_directives}
+use Rattle.inc_graph.specs.declared.building.directs.KeptDirect.{KeptDirect}
+use Rattle.inc_graph.specs.declared.building.directs.PlacedDirect.{PlacedDirect}
 use Rattle.inc_graph.specs.Settings.{Setting}
 
 -- an #include_next at a place among the include directives of its file
@@ -55,8 +59,13 @@ abbrev pub next_found : Next → Option ℕ → Option Found
 next_found n None = n.alone
 next_found n (Some k) = first_hit k n.hits
 
-abbrev pub lists_at : List (Vec Next Global) → List ℕ → List (List Next)
-lists_at lists places = map (λ k. elim (slice_get lists k) [ Some list ↦ list.items | None ↦ [] ]) places
+-- those of each file whose directives were looked up in an include path; the first list is of none
+abbrev pub list_at : List (Vec Next Global) → ℕ → Option (List Next)
+list_at lists zero = None
+list_at lists (suc k) = option_map (λ (list : Vec Next Global). list.items) (slice_get lists k)
+
+abbrev pub lists_at : List (Vec Next Global) → List ℕ → List (Option (List Next))
+lists_at lists places = map (list_at lists) places
 
 -- what names a header, if it is one, where so many include directives come before it
 abbrev pub next_by : Layout → (file index : ℕ) → Named → List Next
@@ -87,6 +96,55 @@ nexts_of layout file (Err fault) = []
 abbrev pub bytes_nexts : Setting → Layout → (file : ℕ) → List ℕ → List Next
 bytes_nexts setting layout file bytes = nexts_of layout file (text_directives setting file (phase_text setting.language bytes))
 
+---- the direct include directives of a file, in a further include path
+
+-- one at a place among the include directives of its file
+pub record Direct : Type 0 where
+  pub index : ℕ
+  pub header : Named
+
+abbrev pub direct_at : (index : ℕ) → LineKind → List Direct
+direct_at index k = option_map_or (λ (header : Named). record { index = index; header = header } ∷ []) (direct_header k) []
+
+-- those of some directives, where so many include directives come before them
+abbrev pub directs_from : (index : ℕ) → List Directive → List Direct
+directs_from index [] = []
+directs_from index (d ∷ ds) = direct_at index d.kind ++ directs_from (index + entry_count d.kind) ds
+
+abbrev pub directs_of : Result (List Directive) FileFault → List Direct
+directs_of (Ok directives) = directs_from 0 directives
+directs_of (Err fault) = []
+
+-- those of a file with these bytes
+abbrev pub bytes_directs : Setting → (file : ℕ) → List ℕ → List Direct
+bytes_directs setting file bytes = directs_of (text_directives setting file (phase_text setting.language bytes))
+
+-- one of the program as the definitions see it
+abbrev pub seen_placed : PlacedDirect → Direct
+seen_placed d = record { index = d.index; header = record { by = d.by; form = d.header.form; name = d.header.name.now } }
+
+-- one with the number of its header among names
+abbrev pub named_direct : List HeaderName → KeptDirect → Direct
+named_direct names d =
+    let header : HeaderName = name_at names d.header in
+    record { index = d.index; header = record { by = d.by; form = header.form; name = header.name } }
+
+-- those of each file that is read, by the places of their lists; 0 is that of no list
+abbrev pub kept_at : List (List Direct) → ℕ → List Direct
+kept_at lists zero = []
+kept_at lists (suc k) = slice_index_or lists k []
+
+-- what one finds in a file that is found so
+abbrev pub direct_found : Layout → Found → Direct → Option Found
+direct_found layout at d = named_place layout at d.header
+
+abbrev pub directs_found : Layout → Found → List Direct → List Found
+directs_found layout at directs = filter_map (direct_found layout at) directs
+
+-- the #include_next directives among them
+abbrev pub nexts_among : Layout → (file : ℕ) → List Direct → List Next
+nexts_among layout file directs = flat_map (λ (d : Direct). next_by layout file d.index d.header) directs
+
 ---- a further way in which a file is found
 
 -- an include directive leads to this file too
@@ -104,9 +162,13 @@ abbrev pub led_state : (index file : ℕ) → Option (Result (List Entry) FileFa
 led_state index file (Some (Ok es)) = Some (Ok (led_at index file es))
 led_state index file s = s
 
+-- that at a place among its include directives leads to what it finds, if it finds anything
+abbrev pub led_to : (index : ℕ) → Option Found → Option (Result (List Entry) FileFault) → Option (Result (List Entry) FileFault)
+led_to index found s = option_map_or (λ (f : Found). led_state index f.file s) found s
+
 -- an #include_next leads from a file, which is found so, to what it finds there
 abbrev pub followed : Option ℕ → Option (Result (List Entry) FileFault) → Next → Option (Result (List Entry) FileFault)
-followed next s n = option_map_or (λ (f : Found). led_state n.index f.file s) (next_found n next) s
+followed next s n = led_to n.index (next_found n next) s
 
 abbrev pub with_nexts : Option ℕ → Option (Result (List Entry) FileFault) → List Next → Option (Result (List Entry) FileFault)
 with_nexts next s nexts = fold (followed next) s nexts
@@ -114,3 +176,10 @@ with_nexts next s nexts = fold (followed next) s nexts
 -- what they find
 abbrev pub nexts_found : Option ℕ → List Next → List Found
 nexts_found next nexts = filter_map (λ (n : Next). next_found n next) nexts
+
+-- each direct include directive leads from a file, which is found so in a further include path, to what it finds there
+abbrev pub with_direct : Layout → Found → Option (Result (List Entry) FileFault) → Direct → Option (Result (List Entry) FileFault)
+with_direct layout at s d = led_to d.index (direct_found layout at d) s
+
+abbrev pub with_directs : Layout → Found → Option (Result (List Entry) FileFault) → List Direct → Option (Result (List Entry) FileFault)
+with_directs layout at s directs = fold (with_direct layout at) s directs

@@ -10,14 +10,15 @@ use Rattle.inc_lookup.specs.Projects.{Listing}
 use Rattle.inc_graph.specs.declared.building.GraphRefusal.{GraphRefusal}
 use Rattle.inc_graph.specs.declared.building.GraphRefusal.TheVariants.{BadFile, TooManyDirectives, CannotRead, FileTooLong, NoMemory}
 use Rattle.inc_graph.specs.IncludeGraph.{InClosure}
+use Rattle.inc_graph.specs.declared.building.Source.{Source}
 
 -- only files of the closure were read, each once, and never a header
-abbrev pub IsOfClosure : Setting → (sources headers : List ℕ) → List Given → Listing → Type 0
+abbrev pub IsOfClosure : Setting → (sources : List Source) → (headers : List ℕ) → List Given → Listing → Type 0
 IsOfClosure setting sources headers given listing =
     All (λ (g : Given). InClosure setting listing sources headers g.file × (is_member g.file headers ≡ false)) given × IsOnce given
 
 -- and this file, whose reading failed, is a further one
-abbrev pub IsReachedAfter : Setting → (sources headers : List ℕ) → (file : ℕ) → List Given → Listing → Type 0
+abbrev pub IsReachedAfter : Setting → (sources : List Source) → (headers : List ℕ) → (file : ℕ) → List Given → Listing → Type 0
 IsReachedAfter setting sources headers file given listing =
     IsOfClosure setting sources headers given listing × InClosure setting listing sources headers file × (is_member file headers ≡ false) × All (λ (g : Given). g.file ≢ file) given
 

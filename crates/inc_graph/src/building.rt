@@ -1,13 +1,15 @@
 //! How a graph is built of a project.
-ghost use Rattle.std.specs.Prelude.{◌≡◌, ◌<◌, length, IfOk, IfErr, IfSome, Ok, Err};
+ghost use Rattle.std.specs.Prelude.{◌≡◌, ◌<◌, ◌+◌, length, IfOk, IfErr, IfSome, Ok, Err};
 ghost use Rattle.inc_lookup.specs.Given.{HoldsOfGiven, FailsAfter};
-ghost use Rattle.inc_graph.specs.IncludeGraph.{AreEnds, IsGraphAnswer, IsRefusalWithin};
+ghost use Rattle.inc_graph.specs.IncludeGraph.{AreAsked, IsGraphAnswer, IsRefusalWithin, source_files};
 ghost use Rattle.inc_graph.specs.ReadFiles.{IsOfClosure, IsReachedAfter, IsOfFiles, read_fault_of};
 
 mod closures;
+mod directs;
 mod entries;
 mod file_entries;
 mod gathering;
+pub(crate) mod lookups;
 mod nexts;
 mod places;
 mod states;
@@ -22,6 +24,15 @@ use inc_directive::FileFault;
 use inc_lookup::{FileId, Project, Sources};
 use std::alloc::{AllocError, AllocFailed, Global};
 use thiserror::Error;
+
+/// A source, and the include path in which the files are looked for that its include directives name, and theirs.
+#[derive(Clone, Copy, Debug, PartialEq, Eq)]
+pub struct Source {
+    /// The file.
+    pub file: FileId,
+    /// The number of the include path: 0 for the project's own, and 1 for the first of the others of a [`Setting`].
+    pub path: usize,
+}
 
 /// Why a project has no graph for sources and headers.
 #[derive(Clone, Copy, Debug, PartialEq, Eq, Error)]
@@ -75,18 +86,19 @@ impl<T: Drop> From<AllocFailed<T>> for GraphRefusal {
 }
 
 impl Graph {
-    /// The graph of the files that include directives reach from the files of `from` without leaving from those of `to`. Each of these files is
-    /// read once, when it is reached, those of `to` never; its bytes are given up before the next is read. The first reading that fails
-    /// is answered. Then of several bad files the first of the list is answered, before too many directives.
-    pub fn build<S: Sources>(
+    /// The graph of the files that include directives reach from the files of `from` without leaving from those of `to`, each source in its
+    /// include path. Each of these files is read once, when it is reached, those of `to` never; its bytes are given up before the next is
+    /// read. The first reading that fails is answered. Then of several bad files the first of the list is answered, before too many
+    /// directives.
+    pub fn build<'p, S: Sources>(
         alloc: Global,
-        project: &Project<'_>,
+        project: &'p Project<'p>,
         sources: &mut S,
-        from: &[FileId],
+        from: &[Source],
         to: &[FileId],
-        setting: &Setting<'_>,
+        setting: &'p Setting<'p>,
     ) -> Result<Graph, GraphRefusal>
-        requires { AreEnds (length project.now.paths) from.now to.now }
+        requires { AreAsked (length project.now.paths) (length setting.now.others + 1) from.now to.now }
         ensures graph { IfOk result (λ graph.
             HoldsOfGiven S.gives sources.old sources.new project.now (λ given listing.
             IsGraphAnswer setting.now listing from.now to.now (Ok graph)
@@ -100,35 +112,37 @@ impl Graph {
             (IsReachedAfter setting.now from.now to.now r.0))) }
         ensures within { IfErr result (λ fault. IsRefusalWithin (length project.now.paths) fault) }
     {
-        let from = FileSet::new(alloc, project.count(), from)?;
+        let starts = FileSet::of_sources(alloc, project.count(), from)?;
         let to = FileSet::new(alloc, project.count(), to)?;
-        Graph::build_in(alloc, project, sources, from, to, setting)
+        Graph::build_in(alloc, project, sources, from, starts, to, setting)
     }
 
     /// The same with the files in sets.
-    fn build_in<S: Sources>(
+    fn build_in<'p, S: Sources>(
         alloc: Global,
-        project: &Project<'_>,
+        project: &'p Project<'p>,
         sources: &mut S,
-        from: FileSet,
+        from: &[Source],
+        starts: FileSet,
         to: FileSet,
-        setting: &Setting<'_>,
+        setting: &'p Setting<'p>,
     ) -> Result<Graph, GraphRefusal>
-        requires { AreEnds (length project.now.paths) from to }
+        requires asked { AreAsked (length project.now.paths) (length setting.now.others + 1) from.now to }
+        requires starts { starts ≡ source_files from.now }
         ensures graph { IfOk result (λ graph.
             HoldsOfGiven S.gives sources.old sources.new project.now (λ given listing.
-            IsGraphAnswer setting.now listing from to (Ok graph)
-            × IsOfClosure setting.now from to given listing)) }
+            IsGraphAnswer setting.now listing from.now to (Ok graph)
+            × IsOfClosure setting.now from.now to given listing)) }
         ensures refusal { IfErr result (λ fault. IsOfFiles fault →
             HoldsOfGiven S.gives sources.old sources.new project.now (λ given listing.
-            IsGraphAnswer setting.now listing from to (Err fault)
-            × IsOfClosure setting.now from to given listing)) }
+            IsGraphAnswer setting.now listing from.now to (Err fault)
+            × IsOfClosure setting.now from.now to given listing)) }
         ensures unread { IfErr result (λ fault. IfSome (read_fault_of fault) (λ r.
             FailsAfter S.gives sources.old sources.new project.now r.0 r.1
-            (IsReachedAfter setting.now from to r.0))) }
+            (IsReachedAfter setting.now from.now to r.0))) }
         ensures within { IfErr result (λ fault. IsRefusalWithin (length project.now.paths) fault) }
     {
-        let states = read_closure(alloc, project, sources, &from, &to, setting)?;
+        let states = read_closure(alloc, project, sources, from, &to, setting)?;
         if let Some(refusal) = first_bad(project, &states) {
             return Err(refusal);
         }
@@ -137,7 +151,7 @@ impl Graph {
         };
         let mut parts = Parts {
             files: project.count(),
-            sources: from,
+            sources: starts,
             headers: to,
             edges: Vec::with_capacity(alloc, count)?,
             missing: MissingList::new(alloc),

@@ -1,8 +1,12 @@
 //! Sets of files of a project.
-ghost use Rattle.std.specs.Prelude.{◌≡◌, ◌<◌, IfOk};
+ghost use Rattle.std.specs.Prelude.{◌≡◌, ◌<◌, ◌++◌, ◌∷◌, [], IfOk, OnOk, if◌then◌else◌, length};
 ghost use Rattle.std.specs.List.{All};
+ghost use Rattle.inc_graph.specs.FileSets.{AreFlags};
+ghost use Rattle.inc_graph.specs.IncludeGraph.{source_files};
 ghost use Rattle.inc_graph.specs.Members.{is_member};
+ghost use Rattle.inc_graph.specs.declared.building.Source.{Source};
 
+use crate::building::Source;
 use inc_lookup::FileId;
 use std::alloc::{AllocError, Global};
 use std::marker::Model;
@@ -43,6 +47,23 @@ impl FileSet {
         })
     }
 
+    /// The files of sources in a project of so many, each once, where it comes first.
+    pub fn of_sources(
+        alloc: Global,
+        count: usize,
+        sources: &[Source],
+    ) -> Result<FileSet, AllocError>
+        requires { All (λ (s : Source). s.file < count) sources.now }
+        ensures { IfOk result (λ set. set ≡ source_files sources.now) }
+    {
+        let mut files = Vec::new(alloc);
+        let mut flags = vec![in alloc; false; count]?;
+        for source in sources {
+            add_file(&mut files, &mut flags, source.file)?;
+        }
+        Ok(FileSet { files, flags })
+    }
+
     /// The files, in their order.
     pub fn as_slice(&self) -> &[FileId]
         ensures { result.now ≡ self.now }
@@ -60,4 +81,21 @@ impl FileSet {
             None => false,
         }
     }
+}
+
+/// Adds a file, unless its flag is set, and sets that.
+fn add_file(files: &mut Vec<FileId>, flags: &mut Vec<bool>, file: FileId) -> Result<(), AllocError>
+    requires within { file < length flags.old.items }
+    requires flags { AreFlags files.old.items flags.old.items }
+    ensures files { OnOk result (files.new.items
+        ≡ (if is_member file files.old.items then files.old.items else files.old.items ++ file ∷ [])) }
+    ensures flags { OnOk result (AreFlags files.new.items flags.new.items) }
+    ensures long { OnOk result (length flags.new.items ≡ length flags.old.items) }
+{
+    if flags[file.index()] {
+        return Ok(());
+    }
+    files.push(file)?;
+    flags[file.index()] = true;
+    Ok(())
 }

@@ -77,7 +77,7 @@ pub enum BlockerKind {
     Computed,
     /// The language has no such directive, as C has no `#embed`.
     Foreign,
-    /// It leads to several files, by how its own file is found: an `#include_next`.
+    /// It leads to several files, by how its own file is found: an `#include_next`, or one of a file that is found in several include paths.
     Several,
 }
 

@@ -12,26 +12,27 @@ ghost use Rattle.inc_lookup.specs.Views.{seen_file};
 ghost use Rattle.inc_lookup.specs.declared.sources.HeldFiles.{HeldFiles};
 ghost use Rattle.inc_graph.specs.Chains.{is_walk, is_chain, IsWalkedTo, IsShortestOrNone, AreChainsByLast};
 ghost use Rattle.inc_graph.specs.Members.{is_member};
-ghost use Rattle.inc_graph.specs.IncludeGraph.{Edge, Graph, read_directives, edges_from, InClosure, IsClosure, is_found, IsGraphAnswer, LeadsToOne};
+ghost use Rattle.inc_graph.specs.IncludeGraph.{Edge, Graph, Start, read_directives, edges_from, InClosure, IsClosure, is_found, IsGraphAnswer, LeadsToOne};
 ghost use Rattle.inc_graph.specs.ReadFiles.{IsOfClosure};
 ghost use Rattle.inc_graph.specs.Reaching.{Reaching, AreReaching};
 ghost use Rattle.inc_graph.specs.declared.building.GraphRefusal.{GraphRefusal};
+ghost use Rattle.inc_graph.specs.declared.building.Source.{Source};
 
 /// Two lists of the ways in which each file of the closure of sources and headers is found have the same ways, and so the same files.
 pub fn closures_are_one()
-    ensures ways { (setting : Setting) (listing : Listing) (sources headers : List ℕ)
-        (a b : ℕ → List (Option ℕ)) →
+    ensures ways { (setting : Setting) (listing : Listing) (sources : List Source) (headers : List ℕ)
+        (a b : ℕ → List Start) →
         IsClosure setting listing sources headers a → IsClosure setting listing sources headers b →
-        (file : ℕ) (next : Option ℕ) → Contains (a file) next → Contains (b file) next }
-    ensures files { (setting : Setting) (listing : Listing) (sources headers : List ℕ)
-        (a b : ℕ → List (Option ℕ)) →
+        (file : ℕ) (start : Start) → Contains (a file) start → Contains (b file) start }
+    ensures files { (setting : Setting) (listing : Listing) (sources : List Source) (headers : List ℕ)
+        (a b : ℕ → List Start) →
         IsClosure setting listing sources headers a → IsClosure setting listing sources headers b →
         (file : ℕ) → is_found (a file) ≡ is_found (b file) }
 {}
 
 /// Two answers for sources and headers, each their graph or the refusal in its place, are the same.
 pub fn graphs_are_one()
-    ensures { (setting : Setting) (listing : Listing) (sources headers : List ℕ)
+    ensures { (setting : Setting) (listing : Listing) (sources : List Source) (headers : List ℕ)
         (a b : Result Graph GraphRefusal) → IsGraphAnswer setting listing sources headers a →
         IsGraphAnswer setting listing sources headers b → a ≡ b }
 {}
@@ -67,7 +68,7 @@ pub fn walks_hold_chains()
 /// The files of the closure are those that walks from the sources reach over the edges of the graph, where no directive leads to several
 /// files.
 pub fn closure_is_what_walks_reach()
-    ensures { (setting : Setting) (listing : Listing) (sources headers : List ℕ) (g : Graph) →
+    ensures { (setting : Setting) (listing : Listing) (sources : List Source) (headers : List ℕ) (g : Graph) →
         IsGraphAnswer setting listing sources headers (Ok g) → LeadsToOne g → (file : ℕ) →
         InClosure setting listing sources headers file ↔
         IsWalkedTo g file }
@@ -76,7 +77,7 @@ pub fn closure_is_what_walks_reach()
 /// Of held files the graph, or the refusal in its place, is that of every listing with their bytes and the project's paths and
 /// directories.
 pub fn held_files_have_the_graph()
-    ensures { (old new : HeldFiles) (layout : Layout) (setting : Setting) (sources headers : List ℕ)
+    ensures { (old new : HeldFiles) (layout : Layout) (setting : Setting) (sources : List Source) (headers : List ℕ)
         (answer : Result Graph GraphRefusal) (listing : Listing) →
         HoldsOfGiven held_gives old new layout (λ given listing.
         IsGraphAnswer setting listing sources headers answer
@@ -95,7 +96,7 @@ pub fn nothing_removed_changes_nothing()
 
 /// No edge is by a directive that is taken as removed.
 pub fn removed_directives_lead_nowhere()
-    ensures { (setting : Setting) (listing : Listing) (starts : List (Option ℕ)) (file : ℕ) (e : Edge) →
+    ensures { (setting : Setting) (listing : Listing) (starts : List Start) (file : ℕ) (e : Edge) →
         Contains (edges_from setting listing starts file) e →
         is_listed setting.removed file e.line ≡ false }
 {}

@@ -20,12 +20,13 @@ pub mod mark_laws;
 mod marks;
 mod missing_lists;
 mod naming;
+pub mod path_laws;
 mod search;
 pub mod set_laws;
 mod settings;
 mod two_way;
 
-pub use building::GraphRefusal;
+pub use building::{GraphRefusal, Source};
 pub use chains::{Chain, ShortestChains, SourceChains};
 pub use costs::Cost;
 pub use edge_numbers::EdgeNumbers;

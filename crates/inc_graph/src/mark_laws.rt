@@ -1,12 +1,13 @@
 //! What holds of marks in every graph. The functions do nothing: what they ensure is what holds.
-ghost use Rattle.std.specs.Prelude.{◌≡◌, ◌≤◌, ◌||◌, ℕ, Bool, false, List, Option, Some, Ok, slice_get, IsTrue};
+ghost use Rattle.std.specs.Prelude.{◌≡◌, ◌≤◌, ◌||◌, ℕ, Bool, false, List, Some, Ok, slice_get, IsTrue};
 ghost use Rattle.std.specs.List.{All, list_any};
 ghost use Rattle.inc_graph.specs.Settings.{Setting};
 ghost use Rattle.inc_lookup.specs.Projects.{Layout, Listing};
 ghost use Rattle.inc_graph.specs.Cuts.{fixed_by, costs_by, is_editable};
-ghost use Rattle.inc_graph.specs.IncludeGraph.{Edge, Graph, IsClosure, is_found, IsGraphAnswer, LeadsToOne};
+ghost use Rattle.inc_graph.specs.IncludeGraph.{Edge, Graph, Start, IsClosure, is_found, IsGraphAnswer, LeadsToOne};
 ghost use Rattle.inc_graph.specs.MarkedEdges.{names_edge, is_kept, is_reached, amount_for, amounts_by};
 ghost use Rattle.inc_graph.specs.Marks.{Mark, Cost};
+ghost use Rattle.inc_graph.specs.declared.building.Source.{Source};
 
 /// The fixed edges are those that leave a kept file and those that marks name, and each other edge has the cost that is given for its
 /// directive.
@@ -33,8 +34,8 @@ pub fn amounts_without_costs_are_one()
 /// The files that marks are looked for in, the sources and those that an edge leads to, are the closure of sources and headers, where no
 /// directive leads to several files.
 pub fn reached_files_are_the_closure()
-    ensures { (setting : Setting) (listing : Listing) (sources headers : List ℕ) (g : Graph)
-        (starts : ℕ → List (Option ℕ)) →
+    ensures { (setting : Setting) (listing : Listing) (sources : List Source) (headers : List ℕ) (g : Graph)
+        (starts : ℕ → List Start) →
         IsGraphAnswer setting listing sources headers (Ok g) → LeadsToOne g →
         IsClosure setting listing sources headers starts →
         (file : ℕ) → is_reached g file ≡ is_found (starts file) }

@@ -13,8 +13,10 @@ pub mod MacroLemmas
 pub mod MarkListLemmas
 pub mod NameReports
 pub mod NoteLemmas
+pub mod PathLemmas
 pub mod PlaceLemmas
 pub mod PlaceMarks
 pub mod PrintedMarks
 pub mod ProjectLemmas
+pub mod SourceLemmas
 pub mod StepLemmas

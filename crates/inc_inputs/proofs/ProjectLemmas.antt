@@ -1,41 +1,48 @@
 -- Directories of a project, one more at a time.
 use Rattle.std.proofs.Common.{◌≡◌, ℕ, ◌+◌, ◌<◌, Option, List, [], ◌∷◌, ◌++◌, codes, length, drop, get_or, map, refl, sym, ap, ◌∙◌}
 use Rattle.std.proofs.lemmas.List.{drop_more}
-use Rattle.inc_build.specs.Builds.{with_name}
+use Rattle.inc_build.specs.declared.compiler_words.Kind.{Kind}
 use Rattle.inc_inputs.specs.BuildNotes.{Kept, none, with_lines}
 use Rattle.inc_args.specs.Meaning.{FileWords, Question}
-use Rattle.inc_inputs.specs.BuildProjects.{Dirs, Found, all_empty, empty_lines, found_files, found_question, if_empty, in_place, once, unless_named}
+use Rattle.inc_inputs.specs.BuildProjects.{Added, Chosen, Dirs, Found, Ground, added_by, all_dirs, all_empty, compiled_of, empty_lines, found_files, found_of_uses, found_question, header_form, in_place, known_with, macros_of, nul_ended, once, other_dirs, path_empty, rows_at, unless_named, used_paths}
 use Rattle.inc_inputs.proofs.NoteLemmas.{with_lines-append}
 
-module _ {X : Type 0} (f : X → List ℕ) (xs : List X) (at : ℕ) (d : X) (low : at < length xs) where
-  next : map f (drop at xs) ≡ f (get_or xs at d) ∷ map f (drop (at + 1) xs)
-  next = ap (map f) (drop_more xs at d low)
-
-  -- what is noted
-  pub empty_more : (files : List (List ℕ)) (option : List ℕ) (k l : Kept) (known more : List (List ℕ))
-      → l ≡ with_lines k (if_empty files option known (f (get_or xs at d))) → more ≡ with_name (f (get_or xs at d)) known
-      → with_lines l (empty_lines files option more (map f (drop (at + 1) xs))) ≡ with_lines k (empty_lines files option known (map f (drop at xs)))
-  empty_more files option k l known more noted named =
-      ap (λ (n : Kept). with_lines n (empty_lines files option more (map f (drop (at + 1) xs)))) noted
-      ∙ ap (λ (ns : List (List ℕ)). with_lines (with_lines k (if_empty files option known (f (get_or xs at d)))) (empty_lines files option ns (map f (drop (at + 1) xs)))) named
-      ∙ sym (with_lines-append k (if_empty files option known (f (get_or xs at d))) (empty_lines files option (with_name (f (get_or xs at d)) known) (map f (drop (at + 1) xs))))
-      ∙ ap (λ (ds : List (List ℕ)). with_lines k (empty_lines files option known ds)) (sym next)
-
-  -- which directories are known
-  pub once_more : (known more : List (List ℕ)) → more ≡ with_name (f (get_or xs at d)) known → once more (map f (drop (at + 1) xs)) ≡ once known (map f (drop at xs))
-  once_more known more named =
-      ap (λ (ns : List (List ℕ)). once ns (map f (drop (at + 1) xs))) named ∙ ap (once known) (sym next)
+-- the notes of one more include path
+pub paths_more : {X : Type 0} (f : X → Dirs) (files : List (List ℕ)) (xs : List X) (at : ℕ) (x : X) (k l : Kept) (known more : List (List ℕ)) → at < length xs → x ≡ get_or xs at x
+    → l ≡ with_lines k (path_empty files known (f x)) → more ≡ known_with known (f x)
+    → with_lines l (all_empty files more (map f (drop (at + 1) xs))) ≡ with_lines k (all_empty files known (map f (drop at xs)))
+paths_more {X} f files xs at x k l known more low is noted named =
+    let rest : List Dirs = map f (drop (at + 1) xs) in
+    ap (λ (n : Kept). with_lines n (all_empty files more rest)) noted
+    ∙ ap (λ (ns : List (List ℕ)). with_lines (with_lines k (path_empty files known (f x))) (all_empty files ns rest)) named
+    ∙ sym (with_lines-append k (path_empty files known (f x)) (all_empty files (known_with known (f x)) rest))
+    ∙ ap (λ (y : X). with_lines k (all_empty files known (f y ∷ rest))) is
+    ∙ ap (λ (ds : List X). with_lines k (all_empty files known (map f ds))) (sym (drop_more xs at x low))
 
 -- directories of all sorts
-pub three_noted : (files : List (List ℕ)) (d : Dirs) (k l m n : Kept) (ks ls ms : List (List ℕ)) → k ≡ none → ks ≡ []
+pub path_noted : (files : List (List ℕ)) (d : Dirs) (k l m n : Kept) (ks ls ms : List (List ℕ))
     → l ≡ with_lines k (empty_lines files (codes "-I") ks d.dirs) → ls ≡ once ks d.dirs
     → m ≡ with_lines l (empty_lines files (codes "-isystem") ls d.system) → ms ≡ once ls d.system
-    → n ≡ with_lines m (empty_lines files (codes "-idirafter") ms d.last) → n ≡ with_lines none (all_empty files d)
-three_noted files d k l m n ks ls ms e f g h i j last =
-    let first : List (List ℕ) = empty_lines files (codes "-I") [] d.dirs in
-    let second : List (List ℕ) = empty_lines files (codes "-isystem") (once [] d.dirs) d.system in
-    let third : List (List ℕ) = empty_lines files (codes "-idirafter") (once (once [] d.dirs) d.system) d.last in
-    rw (last, j, i, h, g, f, e) (sym (with_lines-append none first (second ++ third) ∙ with_lines-append (with_lines none first) second third))
+    → n ≡ with_lines m (empty_lines files (codes "-idirafter") ms d.last) → n ≡ with_lines k (path_empty files ks d)
+path_noted files d k l m n ks ls ms g h i j last =
+    let first : List (List ℕ) = empty_lines files (codes "-I") ks d.dirs in
+    let second : List (List ℕ) = empty_lines files (codes "-isystem") (once ks d.dirs) d.system in
+    let third : List (List ℕ) = empty_lines files (codes "-idirafter") (once (once ks d.dirs) d.system) d.last in
+    rw (last, j, i, h, g) (sym (with_lines-append k first (second ++ third) ∙ with_lines-append (with_lines k first) second third))
+
+-- an include path and others
+pub paths_noted : (files : List (List ℕ)) (d : Dirs) (ds : List Dirs) (k l m : Kept) (ks ls : List (List ℕ)) → k ≡ none → ks ≡ []
+    → l ≡ with_lines k (path_empty files ks d) → ls ≡ known_with ks d → m ≡ with_lines l (all_empty files ls ds) → m ≡ with_lines none (all_empty files [] (d ∷ ds))
+paths_noted files d ds k l m ks ls e f g h last =
+    rw (last, h, g, f, e) (sym (with_lines-append none (path_empty files [] d) (all_empty files (known_with [] d) ds)))
+
+-- a project, part by part
+pub project_made : (g : Ground) (files headers : List (List ℕ)) (words : FileWords) (c : Chosen) (own : Dirs) (used : List ℕ) (list : List ℕ) (hs : List (List ℕ)) (ms : List (Kind × List ℕ)) (a : Added)
+    → own ≡ all_dirs g (rows_at g.build c.uses) words → used ≡ used_paths c.uses → list ≡ nul_ended files → hs ≡ map (header_form g files) headers → ms ≡ macros_of g c.uses
+    → a ≡ added_by g files c own (other_dirs g words used) (compiled_of g used)
+    → (let f : Found = record { list = list; dirs = own.dirs; system = own.system; last = own.last; sources = c.sources; headers = hs; macros = ms; added = a } in f)
+    ≡ found_of_uses g files headers words c
+project_made g files headers words c own used list hs ms a d e h i j k = rw (k, j, i, h, e, d) refl
 
 -- a question and a preprocessing, part by part
 pub question_made : (f : Found) (q : Question) (files : FileWords) (source header without : Option (List ℕ)) (from to drops undefined : List (List ℕ))

@@ -1,5 +1,5 @@
 -- The paths of a build, which are absolute, as the project has them.
-use Rattle.std.specs.Prelude.{ℕ, ◌||◌, Bool, true, false, List, [], ◌∷◌, ◌++◌, Option, Some, None, if◌then◌else◌, bytes_eq, codes, is_some, option_and_then, unwrap_or}
+use Rattle.std.specs.Prelude.{ℕ, ◌||◌, Bool, true, false, List, [], ◌∷◌, Option, if◌then◌else◌, bytes_eq, codes, is_some, option_and_then, unwrap_or}
 use Rattle.std.specs.List.{join_with_byte}
 use Rattle.inc_build.specs.CompilerWords.{after}
 use Rattle.inc_build.specs.Paths.{components, or_root, path_from}

@@ -1,6 +1,6 @@
 -- The project that a question with `-p BUILD` is about: what is read for it, and the words that stand in place of those of the question. Nothing
 -- that is proved of an answer rests on a build: with these words the question is one without `-p`.
-use Rattle.std.specs.Prelude.{◌≡◌, ℕ, suc, ◌-◌, ◌==◌, ◌&&◌, ◌||◌, not, Bool, true, false, List, [], ◌∷◌, ◌++◌, Option, Some, None, Result, Ok, Err, if◌then◌else◌, bytes_eq, codes, count_by, drop, filter, find, flat_map, get_or, is_none, is_some, length, map, nat_le, nat_lt, position, take}
+use Rattle.std.specs.Prelude.{◌≡◌, ℕ, suc, ◌-◌, ◌==◌, ◌&&◌, ◌||◌, not, Bool, true, false, List, [], ◌∷◌, ◌++◌, Option, Some, None, Result, Ok, Err, if◌then◌else◌, bytes_eq, codes, drop, filter, filter_map, find, flat_map, get_or, is_none, is_some, length, map, nat_le, nat_lt, position, take}
 use Rattle.std.specs.List.{list_all, list_any, prefix_len, range_with_len}
 use Rattle.std.specs.Str.{is_utf8}
 use Rattle.serde_json.specs.Data.{Data}
@@ -319,9 +319,12 @@ are_same _ _ = false
 
 ---- directories
 
+abbrev pub rows_of : Build → (configuration : ℕ) → List Row
+rows_of b n = get_or b.configurations n []
+
 abbrev pub rows_at : Build → List Use → List Row
-rows_at b [] = get_or b.configurations 0 []
-rows_at b (u ∷ us) = get_or b.configurations u.configuration []
+rows_at b [] = rows_of b 0
+rows_at b (u ∷ us) = rows_of b u.configuration
 
 abbrev pub dirs_of : Ground → Kind → List Row → List (List ℕ)
 dirs_of g kind rows = map (λ (r : Row). form_of g.here g.is_relative r.path) (filter (λ (r : Row). is_kind r.kind kind) rows)
@@ -342,7 +345,46 @@ all_dirs g rows words = record {
   last = dirs_and g Last rows words.last;
 }
 
----- what is refused: that the entries do not agree, and what is not supported in them
+-- numbers and one more, unless it is among them
+abbrev pub with_number : (number : ℕ) → List ℕ → List ℕ
+with_number n ns = if list_any (λ m. n == m) ns then ns else ns ++ n ∷ []
+
+abbrev pub paths_with : (known : List ℕ) → List Use → List ℕ
+paths_with known [] = known
+paths_with known (u ∷ us) = paths_with (with_number u.configuration known) us
+
+-- the include paths of the entries that count by their numbers, each once, where it comes first
+abbrev pub used_paths : List Use → List ℕ
+used_paths us = paths_with [] us
+
+abbrev pub dirs_of_each : Ground → FileWords → (numbers : List ℕ) → List Dirs
+dirs_of_each g words ns = map (λ (n : ℕ). all_dirs g (rows_of g.build n) words) ns
+
+-- those beside the first, which is that of the project
+abbrev pub other_dirs : Ground → FileWords → (used : List ℕ) → List Dirs
+other_dirs g words used = dirs_of_each g words (drop 1 used)
+
+-- a source of the build as the project has it, and the include paths of its entries by their places among those that count
+pub record BuildSource : Type 0 where
+  pub path : List ℕ
+  pub paths : List ℕ
+
+abbrev pub path_places : (used : List ℕ) → List Use → List ℕ
+path_places used us = filter_map (λ (u : Use). position (λ n. u.configuration == n) used) us
+
+abbrev pub build_source : Ground → (used : List ℕ) → (number : ℕ) → (source : List ℕ) → BuildSource
+build_source g used n source = record { path = form_of g.here g.is_relative source; paths = path_places used (get_or g.build.uses n []) }
+
+-- those from this number on
+abbrev pub build_sources : Ground → (used : List ℕ) → ℕ → (sources : List (List ℕ)) → List BuildSource
+build_sources g used n [] = []
+build_sources g used n (s ∷ ss) = build_source g used n s ∷ build_sources g used (suc n) ss
+
+-- all of them, where several include paths count
+abbrev pub compiled_of : Ground → (used : List ℕ) → List BuildSource
+compiled_of g used = if nat_lt 1 (length used) then build_sources g used 0 g.build.sources else []
+
+---- what is refused: what is not supported in the entries, and of a preprocessing that they do not agree
 
 abbrev pub checked : {A : Type 0} → Result (Unit {0}) Report → Result A Report → Result A Report
 checked (Err r) next = Err r
@@ -388,29 +430,40 @@ entry_fault g u = not_listed g.name u.entry (listed_in (items_at g.entries u.ent
 abbrev pub macros_at : Ground → (entry : ℕ) → List (Kind × List ℕ)
 macros_at g n = macros_in (items_at g.entries n)
 
--- an entry defines the macros of the first one, where macros count
-abbrev pub is_like : Ground → (has_macros : Bool) → (first other : Use) → Result (Unit {0}) Report
-is_like g has_macros u v =
-    if has_macros && not (are_same (macros_at g u.entry) (macros_at g v.entry)) then Err (two_uses other_macros g u v) else Ok tt
+-- an entry defines the macros of the first one
+abbrev pub is_like : Ground → (first other : Use) → Result (Unit {0}) Report
+is_like g u v = if are_same (macros_at g u.entry) (macros_at g v.entry) then Ok tt else Err (two_uses other_macros g u v)
 
-abbrev pub other_fault : Ground → (has_macros : Bool) → (first other : Use) → Result (Unit {0}) Report
-other_fault g has_macros u v = checked (entry_fault g v) (is_like g has_macros u v)
+abbrev pub other_fault : Ground → (first other : Use) → Result (Unit {0}) Report
+other_fault g u v = checked (entry_fault g v) (is_like g u v)
 
-abbrev pub others_fault : Ground → (has_macros : Bool) → (first : Use) → List Use → Result (Unit {0}) Report
-others_fault g has_macros u [] = Ok tt
-others_fault g has_macros u (v ∷ vs) = checked (other_fault g has_macros u v) (others_fault g has_macros u vs)
+abbrev pub others_fault : Ground → (first : Use) → List Use → Result (Unit {0}) Report
+others_fault g u [] = Ok tt
+others_fault g u (v ∷ vs) = checked (other_fault g u v) (others_fault g u vs)
 
-abbrev pub entries_fault : Ground → (has_macros : Bool) → List Use → Result (Unit {0}) Report
-entries_fault g has_macros [] = Ok tt
-entries_fault g has_macros (u ∷ us) = checked (entry_fault g u) (others_fault g has_macros u us)
+abbrev pub entries_fault : Ground → List Use → Result (Unit {0}) Report
+entries_fault g [] = Ok tt
+entries_fault g (u ∷ us) = checked (entry_fault g u) (others_fault g u us)
 
 abbrev pub first_entry : List Use → ℕ
 first_entry [] = 0
 first_entry (u ∷ us) = u.entry
 
+-- a preprocessing is by one include path and one set of macros
+abbrev pub alike_fault : Ground → List Use → Result (Unit {0}) Report
+alike_fault g us =
+    checked (are_of_one_path g us) (checked (rows_fault g (first_entry us) (rows_at g.build us)) (entries_fault g us))
+
+abbrev pub use_fault : Ground → Use → Result (Unit {0}) Report
+use_fault g u = checked (rows_fault g u.entry (rows_of g.build u.configuration)) (entry_fault g u)
+
+-- the first entry with what is not supported
+abbrev pub each_fault : Ground → List Use → Result (Unit {0}) Report
+each_fault g [] = Ok tt
+each_fault g (u ∷ us) = checked (use_fault g u) (each_fault g us)
+
 abbrev pub uses_fault : Ground → (has_macros : Bool) → List Use → Result (Unit {0}) Report
-uses_fault g has_macros us =
-    checked (are_of_one_path g us) (checked (rows_fault g (first_entry us) (rows_at g.build us)) (entries_fault g has_macros us))
+uses_fault g has_macros us = if has_macros then alike_fault g us else each_fault g us
 
 ---- what is noted
 
@@ -436,15 +489,36 @@ abbrev pub empty_lines : (files : List (List ℕ)) → (option : List ℕ) → (
 empty_lines files option known [] = []
 empty_lines files option known (d ∷ ds) = if_empty files option known d ++ empty_lines files option (with_name d known) ds
 
-abbrev pub all_empty : (files : List (List ℕ)) → Dirs → List (List ℕ)
-all_empty files d =
-    empty_lines files (codes "-I") [] d.dirs ++ (empty_lines files (codes "-isystem") (once [] d.dirs) d.system
-    ++ empty_lines files (codes "-idirafter") (once (once [] d.dirs) d.system) d.last)
+-- those of an include path
+abbrev pub path_empty : (files : List (List ℕ)) → (known : List (List ℕ)) → Dirs → List (List ℕ)
+path_empty files known d =
+    empty_lines files (codes "-I") known d.dirs ++ (empty_lines files (codes "-isystem") (once known d.dirs) d.system
+    ++ empty_lines files (codes "-idirafter") (once (once known d.dirs) d.system) d.last)
 
-abbrev pub notes_of : (files : List (List ℕ)) → (absent : ℕ) → (skipped : List (List ℕ × ℕ)) → Dirs → List ℕ
-notes_of files absent skipped d = absent_notes absent ++ some_lines (map skipped_line skipped) ++ some_lines (all_empty files d)
+abbrev pub known_with : (known : List (List ℕ)) → Dirs → List (List ℕ)
+known_with known d = once (once (once known d.dirs) d.system) d.last
+
+-- those of several, each directory once
+abbrev pub all_empty : (files : List (List ℕ)) → (known : List (List ℕ)) → List Dirs → List (List ℕ)
+all_empty files known [] = []
+all_empty files known (d ∷ ds) = path_empty files known d ++ all_empty files (known_with known d) ds
+
+abbrev pub notes_of : (files : List (List ℕ)) → (absent : ℕ) → (skipped : List (List ℕ × ℕ)) → List Dirs → List ℕ
+notes_of files absent skipped ds = absent_notes absent ++ some_lines (map skipped_line skipped) ++ some_lines (all_empty files [] ds)
 
 ---- the project
+
+-- what a build adds to the words of a question
+pub record Added : Type 0 where
+  pub notes : List ℕ
+  -- the include paths beside that of the project
+  pub others : List Dirs
+  -- which of them its sources are compiled with; none where there are no others
+  pub compiled : List BuildSource
+
+-- where there is no build
+abbrev pub none_added : Added
+none_added = record { notes = []; others = []; compiled = [] }
 
 -- the project as data: its files, each path ended by NUL, its include path, and the words in place of those of the question
 pub record Found : Type 0 where
@@ -455,15 +529,22 @@ pub record Found : Type 0 where
   pub sources : List (List ℕ)
   pub headers : List (List ℕ)
   pub macros : List (Kind × List ℕ)
-  pub notes : List ℕ
+  pub added : Added
 
 abbrev pub macros_of : Ground → List Use → List (Kind × List ℕ)
 macros_of g [] = []
 macros_of g (u ∷ us) = macros_at g u.entry
 
+abbrev pub added_by : Ground → (files : List (List ℕ)) → Chosen → (own : Dirs) → (others : List Dirs) → List BuildSource → Added
+added_by g files c own others compiled = record {
+  notes = notes_of files c.absent (skipped_of g.entries [] c.uses) (own ∷ others);
+  others = others;
+  compiled = compiled;
+}
+
 -- with these directories
-abbrev pub found_with : Ground → (files headers : List (List ℕ)) → Chosen → Dirs → Found
-found_with g files headers c d = record {
+abbrev pub found_with : Ground → (files headers : List (List ℕ)) → Chosen → Dirs → Added → Found
+found_with g files headers c d added = record {
   list = nul_ended files;
   dirs = d.dirs;
   system = d.system;
@@ -471,19 +552,34 @@ found_with g files headers c d = record {
   sources = c.sources;
   headers = map (header_form g files) headers;
   macros = macros_of g c.uses;
-  notes = notes_of files c.absent (skipped_of g.entries [] c.uses) d;
+  added = added;
 }
+
+-- of the entries that count, which have these include paths
+abbrev pub found_of_paths : Ground → (files headers : List (List ℕ)) → FileWords → Chosen → (own : Dirs) → (used : List ℕ) → Found
+found_of_paths g files headers words c own used =
+    found_with g files headers c own (added_by g files c own (other_dirs g words used) (compiled_of g used))
+
+abbrev pub found_of_uses : Ground → (files headers : List (List ℕ)) → FileWords → Chosen → Found
+found_of_uses g files headers words c =
+    found_of_paths g files headers words c (all_dirs g (rows_at g.build c.uses) words) (used_paths c.uses)
 
 -- by what words come to, or the report of what hinders it
 abbrev pub found_by_choice : Ground → (files : List (List ℕ)) → FileWords → Words → Result Chosen Report → Result Found Report
 found_by_choice g files words w (Err r) = Err r
 found_by_choice g files words w (Ok c) =
-    checked (uses_fault g w.has_macros c.uses) (Ok (found_with g files w.headers c (all_dirs g (rows_at g.build c.uses) words)))
+    checked (uses_fault g w.has_macros c.uses) (Ok (found_of_uses g files w.headers words c))
 
 ---- the words of a question, with those that a build gives in place of its own
 
+abbrev pub dir_words : Dirs → FileWords
+dir_words d = record { build = None; list = None; is_null = true; roots = []; dirs = d.dirs; system = d.system; last = d.last }
+
+abbrev pub own_dirs : Found → Dirs
+own_dirs f = record { dirs = f.dirs; system = f.system; last = f.last }
+
 abbrev pub found_files : Found → FileWords
-found_files f = record { build = None; list = None; is_null = true; roots = []; dirs = f.dirs; system = f.system; last = f.last }
+found_files f = dir_words (own_dirs f)
 
 abbrev pub first_or : List (List ℕ) → List ℕ → List ℕ
 first_or [] word = word

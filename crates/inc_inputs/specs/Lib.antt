@@ -2,6 +2,7 @@ pub mod BuildFolders
 pub mod BuildMacros
 pub mod BuildNotes
 pub mod BuildPaths
+pub mod BuildPlaces
 pub mod BuildProjects
 pub mod BuildReports
 pub mod BuildSteps

@@ -1,5 +1,5 @@
 -- What functions that read lists give, as the definitions see it.
-use Rattle.std.specs.Prelude.{ℕ, Bool, List, Option, Result, Ok, Err, if◌then◌else◌, map, option_map}
+use Rattle.std.specs.Prelude.{ℕ, Bool, List, Option, Result, Ok, Err, map, option_map}
 use Rattle.std.specs.Borrow.{Bor}
 use Rattle.std.specs.Global.{Vec}
 use Rattle.inc_graph.specs.Marks.{Mark}
@@ -21,7 +21,9 @@ use Rattle.inc_inputs.specs.declared.build_grounds.Ground.{Ground}
 use Rattle.inc_inputs.specs.declared.build_choices.BuildWords.{BuildWords}
 use Rattle.inc_inputs.specs.declared.build_choices.Choice.{Choice}
 use Rattle.inc_inputs.specs.declared.build_projects.BuildProject.{BuildProject}
-use Rattle.inc_inputs.specs.declared.build_projects.Dirs.{Dirs}
+use Rattle.inc_inputs.specs.declared.build_projects.Added.{Added}
+use Rattle.inc_inputs.specs.declared.build_sources.BuildSource.{BuildSource}
+use Rattle.inc_inputs.specs.declared.build_dirs.Dirs.{Dirs}
 use Rattle.inc_inputs.specs.declared.build_texts.Notes.{Notes}
 use Rattle.inc_inputs.specs.declared.ends.EndPaths.{EndPaths}
 use Rattle.inc_inputs.specs.declared.failures.Failure.{Failure}
@@ -79,7 +81,7 @@ ground_in g = record {
 abbrev pub seen_ground : Result Ground Failure → Result builds.Ground Report
 seen_ground result = seen ground_in result
 
--- files by their paths
+-- files, or directories, by their paths
 abbrev pub seen_list : Result (List (List ℕ)) Failure → Result (List (List ℕ)) Report
 seen_list result = seen (λ paths. paths) result
 
@@ -107,6 +109,12 @@ dirs_in d = record { dirs = map (λ d. d.items) d.dirs.items; system = map (λ d
 abbrev pub seen_unit : {A : Type 0} → Result A Failure → Result (Unit {0}) Report
 seen_unit result = seen (λ a. tt) result
 
+abbrev pub source_in : BuildSource → builds.BuildSource
+source_in s = record { path = s.path.items; paths = s.paths.items }
+
+abbrev pub added_in : Added → builds.Added
+added_in a = record { notes = a.notes.items; others = map dirs_in a.others.items; compiled = map source_in a.compiled.items }
+
 abbrev pub project_in : BuildProject → Found
 project_in b = record {
   list = b.list.items;
@@ -116,7 +124,7 @@ project_in b = record {
   sources = map (λ s. s.items) b.sources.items;
   headers = map (λ h. h.items) b.headers.items;
   macros = map macro_of b.macros.items;
-  notes = b.notes.items;
+  added = added_in b.added;
 }
 
 abbrev pub seen_found : Result BuildProject Failure → Result Found Report
@@ -131,6 +139,10 @@ seen_path result = seen (λ path. path.now) result
 
 abbrev pub seen_paths : Result (Vec (Bor (List ℕ))) Failure → Result (List (List ℕ)) Report
 seen_paths result = seen (λ paths. map (λ p. p.now) paths.items) result
+
+-- the directories of include paths
+abbrev pub seen_include_paths : Result (Vec (List (List ℕ))) Failure → Result (List (List (List ℕ))) Report
+seen_include_paths result = seen (λ paths. paths.items) result
 
 abbrev pub seen_layout : Result Layout Failure → Result Layout Report
 seen_layout result = seen (λ layout. layout) result

@@ -1,4 +1,4 @@
-//! What the entries that count ask for: one include path, macros, and nothing that is not supported.
+//! What the entries that count ask for: include paths, macros, and nothing that is not supported.
 ghost use Rattle.std.specs.Prelude.{◌≡◌, ◌≢◌, ℕ, List, [], Some, Err, IfOk, OnOk, suc, bytes_eq, get_or, map, option_map, slice_get, unwrap_or};
 ghost use Rattle.std.specs.Map.{lookup};
 ghost use Rattle.inc_build.specs.Builds.{with_name};
@@ -19,18 +19,18 @@ use indexmap::{IndexMap, IndexSet};
 use std::alloc::{AllocError, Global};
 
 /// The include path of the first of the entries that count.
-pub(crate) fn rows_of<'g>(ground: &'g Ground<'_>, uses: &[Use]) -> &'g [Row]
+pub(crate) fn rows_at<'g>(ground: &'g Ground<'_>, uses: &[Use]) -> &'g [Row]
     ensures { map seen_row result.now ≡ spec.rows_at (ground_in ground.now).build uses.now }
 {
     match uses.first() {
-        Some(first) => rows_at(ground, first.configuration),
-        None => rows_at(ground, 0),
+        Some(first) => rows_of(ground, first.configuration),
+        None => rows_of(ground, 0),
     }
 }
 
 /// The include path of a number.
-fn rows_at<'g>(ground: &'g Ground<'_>, number: usize) -> &'g [Row]
-    ensures { map seen_row result.now ≡ get_or (ground_in ground.now).build.configurations number [] }
+pub(crate) fn rows_of<'g>(ground: &'g Ground<'_>, number: usize) -> &'g [Row]
+    ensures { map seen_row result.now ≡ spec.rows_of (ground_in ground.now).build number }
 {
     match ground.build.configurations().get(number) {
         Some(rows) => rows.as_slice(),
@@ -38,8 +38,8 @@ fn rows_at<'g>(ground: &'g Ground<'_>, number: usize) -> &'g [Row]
     }
 }
 
-/// Refuses entries with different include paths, entries that ask for what is not supported, and, where macros count,
-/// entries that define different ones.
+/// Refuses entries that ask for what is not supported, and, where macros count, entries with different include paths
+/// and entries that define different macros.
 pub(crate) fn check_uses(
     alloc: Global,
     ground: &Ground<'_>,
@@ -49,24 +49,55 @@ pub(crate) fn check_uses(
     ensures { seen_unit result ≢ Err out_of_memory →
         seen_unit result ≡ spec.uses_fault (ground_in ground.now) has_macros uses.now }
 {
+    if has_macros {
+        return check_alike(alloc, ground, uses);
+    }
+    check_each(alloc, ground, uses)
+}
+
+/// Refuses entries that ask for what is not supported.
+fn check_each(alloc: Global, ground: &Ground<'_>, uses: &[Use]) -> Result<(), Failure>
+    ensures { seen_unit result ≢ Err out_of_memory → seen_unit result ≡ spec.each_fault (ground_in ground.now) uses.now }
+{
+    let mut at = 0;
+    while at < uses.len() {
+        match check_use(alloc, ground, uses[at]) {
+            Ok(()) => {}
+            Err(failure) => return Err(failure),
+        }
+        at += 1;
+    }
+    Ok(())
+}
+
+/// Refuses one of them.
+fn check_use(alloc: Global, ground: &Ground<'_>, one: Use) -> Result<(), Failure>
+    ensures { seen_unit result ≢ Err out_of_memory → seen_unit result ≡ spec.use_fault (ground_in ground.now) one }
+{
+    match check_rows(alloc, ground, one.entry, rows_of(ground, one.configuration)) {
+        Ok(()) => check_entry(alloc, ground, one),
+        Err(failure) => Err(failure),
+    }
+}
+
+/// Refuses entries with different include paths, entries that ask for what is not supported, and entries that define
+/// different macros.
+fn check_alike(alloc: Global, ground: &Ground<'_>, uses: &[Use]) -> Result<(), Failure>
+    ensures { seen_unit result ≢ Err out_of_memory → seen_unit result ≡ spec.alike_fault (ground_in ground.now) uses.now }
+{
     match are_of_one_path(alloc, ground, uses) {
-        Ok(()) => check_supported(alloc, ground, has_macros, uses),
+        Ok(()) => check_supported(alloc, ground, uses),
         Err(failure) => Err(failure),
     }
 }
 
 /// The same for entries of one include path.
-fn check_supported(
-    alloc: Global,
-    ground: &Ground<'_>,
-    has_macros: bool,
-    uses: &[Use],
-) -> Result<(), Failure>
+fn check_supported(alloc: Global, ground: &Ground<'_>, uses: &[Use]) -> Result<(), Failure>
     ensures { let g = ground_in ground.now in seen_unit result ≢ Err out_of_memory → seen_unit result
-        ≡ spec.checked (spec.rows_fault g (spec.first_entry uses.now) (spec.rows_at g.build uses.now)) (spec.entries_fault g has_macros uses.now) }
+        ≡ spec.checked (spec.rows_fault g (spec.first_entry uses.now) (spec.rows_at g.build uses.now)) (spec.entries_fault g uses.now) }
 {
-    match check_rows(alloc, ground, first_entry(uses), rows_of(ground, uses)) {
-        Ok(()) => check_entries(alloc, ground, has_macros, uses),
+    match check_rows(alloc, ground, first_entry(uses), rows_at(ground, uses)) {
+        Ok(()) => check_entries(alloc, ground, uses),
         Err(failure) => Err(failure),
     }
 }
@@ -170,22 +201,16 @@ fn row_value<'r>(ground: &Ground<'_>, row: &'r Row) -> &'r [u8]
     }
 }
 
-/// Refuses entries that name a file with more words, and, where macros count, entries that define others than the
-/// first.
-fn check_entries(
-    alloc: Global,
-    ground: &Ground<'_>,
-    has_macros: bool,
-    uses: &[Use],
-) -> Result<(), Failure>
+/// Refuses entries that name a file with more words, and entries that define other macros than the first.
+fn check_entries(alloc: Global, ground: &Ground<'_>, uses: &[Use]) -> Result<(), Failure>
     ensures { seen_unit result ≢ Err out_of_memory →
-        seen_unit result ≡ spec.entries_fault (ground_in ground.now) has_macros uses.now }
+        seen_unit result ≡ spec.entries_fault (ground_in ground.now) uses.now }
 {
     let [first, rest @ ..] = uses else {
         return Ok(());
     };
     match check_entry(alloc, ground, *first) {
-        Ok(()) => check_behind(alloc, ground, has_macros, *first, rest),
+        Ok(()) => check_behind(alloc, ground, *first, rest),
         Err(failure) => Err(failure),
     }
 }
@@ -215,15 +240,14 @@ fn not_listed(alloc: Global, name: &[u8], entry: usize, path: Option<&[u8]>) -> 
 fn check_behind(
     alloc: Global,
     ground: &Ground<'_>,
-    has_macros: bool,
     first: Use,
     others: &[Use],
 ) -> Result<(), Failure>
     ensures { seen_unit result ≢ Err out_of_memory →
-        seen_unit result ≡ spec.others_fault (ground_in ground.now) has_macros first others.now }
+        seen_unit result ≡ spec.others_fault (ground_in ground.now) first others.now }
 {
     match macros_of(alloc, ground, first.entry) {
-        Ok(macros) => check_others(alloc, ground, has_macros, first, &macros, others),
+        Ok(macros) => check_others(alloc, ground, first, &macros, others),
         Err(_) => Err(Failure::NoMemory),
     }
 }
@@ -232,18 +256,17 @@ fn check_behind(
 fn check_others(
     alloc: Global,
     ground: &Ground<'_>,
-    has_macros: bool,
     first: Use,
     macros: &[MacroWord],
     others: &[Use],
 ) -> Result<(), Failure>
     requires { map macro_of macros.now ≡ spec.macros_at (ground_in ground.now) first.entry }
     ensures { seen_unit result ≢ Err out_of_memory →
-        seen_unit result ≡ spec.others_fault (ground_in ground.now) has_macros first others.now }
+        seen_unit result ≡ spec.others_fault (ground_in ground.now) first others.now }
 {
     let mut at = 0;
     while at < others.len() {
-        match check_other(alloc, ground, has_macros, first, macros, others[at]) {
+        match check_other(alloc, ground, first, macros, others[at]) {
             Ok(()) => {}
             Err(failure) => return Err(failure),
         }
@@ -256,37 +279,32 @@ fn check_others(
 fn check_other(
     alloc: Global,
     ground: &Ground<'_>,
-    has_macros: bool,
     first: Use,
     macros: &[MacroWord],
     other: Use,
 ) -> Result<(), Failure>
     requires { map macro_of macros.now ≡ spec.macros_at (ground_in ground.now) first.entry }
     ensures { seen_unit result ≢ Err out_of_memory →
-        seen_unit result ≡ spec.other_fault (ground_in ground.now) has_macros first other }
+        seen_unit result ≡ spec.other_fault (ground_in ground.now) first other }
 {
     match check_entry(alloc, ground, other) {
-        Ok(()) => check_macros(alloc, ground, has_macros, first, macros, other),
+        Ok(()) => check_macros(alloc, ground, first, macros, other),
         Err(failure) => Err(failure),
     }
 }
 
-/// Refuses one that defines other macros, where these count.
+/// Refuses one that defines other macros.
 fn check_macros(
     alloc: Global,
     ground: &Ground<'_>,
-    has_macros: bool,
     first: Use,
     macros: &[MacroWord],
     other: Use,
 ) -> Result<(), Failure>
     requires { map macro_of macros.now ≡ spec.macros_at (ground_in ground.now) first.entry }
     ensures { seen_unit result ≢ Err out_of_memory →
-        seen_unit result ≡ spec.is_like (ground_in ground.now) has_macros first other }
+        seen_unit result ≡ spec.is_like (ground_in ground.now) first other }
 {
-    if !has_macros {
-        return Ok(());
-    }
     match macros_of(alloc, ground, other.entry) {
         Ok(own) if are_same(macros, &own) => Ok(()),
         Ok(_) => Err(unlike_macros(alloc, ground, first, other)),

@@ -1,30 +1,28 @@
 //! The project that a question with `-p BUILD` is about, and the words that stand in place of those of the question.
 ghost use Rattle.std.specs.Prelude.{◌≡◌, ◌≢◌, ◌++◌, [], ◌∷◌, List, None, Some, Err, Ok, false, true, IfErr, IfOk, OnOk, map, option_map};
 ghost use Rattle.inc_args.specs.Views.{seen_files, seen_pp, seen_question};
-ghost use Rattle.inc_build.specs.Builds.{with_name};
-ghost use Rattle.inc_build.specs.Configurations.{Row as AnyRow, is_kind};
-ghost use Rattle.inc_build.specs.Views.{seen_row};
-ghost use Rattle.inc_inputs.specs.BuildNotes.{none, with_lines};
-ghost use Rattle.inc_inputs.specs.BuildPaths.{form};
 ghost use Rattle.inc_inputs.specs.BuildProjects as spec;
 ghost use Rattle.inc_inputs.specs.BuildReports.{skipped_line, some_lines};
 ghost use Rattle.inc_inputs.specs.BuildSteps.{found, found_by, found_if, found_in, found_of_word, found_on};
 ghost use Rattle.inc_inputs.specs.Reports.{not_utf8, out_of_memory, report_of};
 ghost use Rattle.std.specs.Str.{is_utf8};
 ghost use Rattle.inc_inputs.specs.Steps.{Comes};
-ghost use Rattle.inc_inputs.specs.Views.{chosen_in, database_in, dirs_in, ground_in, notes_in, project_in, seen_found, seen_project, words_in};
+ghost use Rattle.inc_inputs.specs.Views.{added_in, chosen_in, database_in, dirs_in, ground_in, project_in, seen_found, seen_project, words_in};
 
 use crate::build_choices::{BuildWords, Choice, choose, header_form};
-use crate::build_entries::{check_uses, first_macros, rows_of, skipped_notes, skipped_of};
+use crate::build_dirs::{Dirs, all_dirs, other_dirs};
+use crate::build_empty::put_empty;
+use crate::build_entries::{check_uses, first_macros, rows_at, skipped_notes, skipped_of};
 use crate::build_files::{BuildFiles, read_files};
 use crate::build_grounds::{Database, Ground, ground_of, read_here, read_named_database};
 use crate::build_macros::MacroWord;
-use crate::build_texts::{Notes, put_absent};
+use crate::build_sources::{BuildSource, compiled_of, used_paths};
+use crate::build_texts::put_absent;
 use crate::failures::Failure;
 use crate::inputs::Inputs;
 use inc_args::{FileList, PpArgs, QuestionArgs};
-use inc_build::{Kind, Row, Use};
-use inc_text::{Key, SeededState};
+use inc_build::Use;
+use inc_text::SeededState;
 use indexmap::IndexSet;
 use std::alloc::{AllocError, Global};
 use std::str;
@@ -39,16 +37,32 @@ pub struct BuildProject {
     headers: Vec<Vec<u8>>,
     /// The words for macros of its entries.
     pub macros: Vec<MacroWord>,
-    /// What is noted.
-    pub notes: Vec<u8>,
+    /// What it adds to those of the question.
+    pub added: Added,
 }
 
-/// The directories in which headers are searched.
+/// What a build adds to the words of a question.
 #[derive(Drop)]
-struct Dirs {
-    dirs: Vec<Vec<u8>>,
-    system: Vec<Vec<u8>>,
-    last: Vec<Vec<u8>>,
+pub struct Added {
+    /// What is noted.
+    pub notes: Vec<u8>,
+    /// The directories of the include paths beside the project's own.
+    pub others: Vec<Dirs>,
+    /// With which include paths the sources are compiled; none where there is one.
+    pub compiled: Vec<BuildSource>,
+}
+
+impl Added {
+    /// Nothing, where there is no build.
+    pub fn none(alloc: Global) -> Added
+        ensures { added_in result ≡ spec.none_added }
+    {
+        Added {
+            notes: Vec::new(alloc),
+            others: Vec::new(alloc),
+            compiled: Vec::new(alloc),
+        }
+    }
 }
 
 /// The project of a question, if it names a build.
@@ -267,7 +281,7 @@ fn project_of(
     }
 }
 
-/// The project of entries that agree.
+/// The project of entries that are not refused.
 fn checked_project(
     alloc: Global,
     seed: u64,
@@ -277,8 +291,8 @@ fn checked_project(
     headers: &[&str],
     choice: Choice,
 ) -> Result<BuildProject, Failure>
-    ensures { let g = ground_in ground.now in let c = chosen_in choice in seen_found result ≢ Err out_of_memory → seen_found result
-        ≡ Ok (spec.found_with g found.now (map (λ h. h.now) headers.now) c (spec.all_dirs g (spec.rows_at g.build c.uses) (seen_files files.now))) }
+    ensures { seen_found result ≢ Err out_of_memory → seen_found result
+        ≡ Ok (spec.found_of_uses (ground_in ground.now) found.now (map (λ h. h.now) headers.now) (seen_files files.now) (chosen_in choice)) }
 {
     match made_project(alloc, seed, ground, found, files, headers, choice) {
         Ok(project) => Ok(project),
@@ -296,11 +310,12 @@ fn made_project(
     headers: &[&str],
     choice: Choice,
 ) -> Result<BuildProject, AllocError>
-    ensures { let g = ground_in ground.now in let c = chosen_in choice in IfOk result (λ project. project_in project
-        ≡ spec.found_with g found.now (map (λ h. h.now) headers.now) c (spec.all_dirs g (spec.rows_at g.build c.uses) (seen_files files.now))) }
+    ensures { IfOk result (λ project. project_in project
+        ≡ spec.found_of_uses (ground_in ground.now) found.now (map (λ h. h.now) headers.now) (seen_files files.now) (chosen_in choice)) }
 {
-    let dirs = all_dirs(alloc, ground, rows_of(ground, &choice.uses), files)?;
-    let notes = notes_of(alloc, seed, ground, found, &choice, &dirs)?;
+    let dirs = all_dirs(alloc, ground, rows_at(ground, &choice.uses), files)?;
+    let used = used_paths(alloc, seed, &choice.uses)?;
+    let added = added_by(alloc, seed, ground, found, files, &choice, &dirs, &used)?;
     let headers = headers_of(alloc, ground, found, headers)?;
     let macros = first_macros(alloc, ground, &choice.uses)?;
     let list = found.list(alloc)?;
@@ -310,115 +325,32 @@ fn made_project(
         sources: choice.sources,
         headers,
         macros,
-        notes,
+        added,
     })
 }
 
-/// The directories of an include path, those of each sort before those of words.
-fn all_dirs(
+/// What is added by include paths with these numbers, of which the first has these directories.
+fn added_by(
     alloc: Global,
+    seed: u64,
     ground: &Ground<'_>,
-    rows: &[Row],
+    found: &BuildFiles,
     files: &FileList<'_>,
-) -> Result<Dirs, AllocError>
-    ensures { IfOk result (λ dirs. dirs_in dirs ≡ spec.all_dirs (ground_in ground.now) (map seen_row rows.now) (seen_files files.now)) }
+    choice: &Choice,
+    own: &Dirs,
+    used: &IndexSet<usize, SeededState>,
+) -> Result<Added, AllocError>
+    ensures { let g = ground_in ground.now in let u = used.now.keys in IfOk result (λ added. added_in added
+        ≡ spec.added_by g found.now (chosen_in choice.now) (dirs_in own.now) (spec.other_dirs g (seen_files files.now) u) (spec.compiled_of g u)) }
 {
-    let dirs = dirs_and(alloc, ground, Kind::Searched, rows, &files.dirs)?;
-    let system = dirs_and(alloc, ground, Kind::System, rows, &files.system)?;
-    let last = dirs_and(alloc, ground, Kind::Last, rows, &files.last)?;
-    Ok(Dirs { dirs, system, last })
-}
-
-/// The directories of one kind of an include path, and after them those of words.
-fn dirs_and(
-    alloc: Global,
-    ground: &Ground<'_>,
-    kind: Kind,
-    rows: &[Row],
-    words: &[&str],
-) -> Result<Vec<Vec<u8>>, AllocError>
-    ensures { IfOk result (λ dirs. map (λ d. d.items) dirs.items
-        ≡ spec.dirs_and (ground_in ground.now) kind (map seen_row rows.now) (map (λ w. w.now) words.now)) }
-{
-    let mut dirs = dirs_of(alloc, ground, kind, rows)?;
-    add_words(alloc, ground, &mut dirs, words)?;
-    Ok(dirs)
-}
-
-/// Adds the directories of words.
-fn add_words(
-    alloc: Global,
-    ground: &Ground<'_>,
-    dirs: &mut Vec<Vec<u8>>,
-    words: &[&str],
-) -> Result<(), AllocError>
-    ensures { let g = ground_in ground.now in OnOk result (map (λ d. d.items) dirs.new.items
-        ≡ map (λ d. d.items) dirs.old.items ++ map (form g.here g.is_relative) (map (λ w. w.now) words.now)) }
-{
-    for word in words {
-        let dir = form(alloc, ground, word.as_bytes())?;
-        dirs.push(dir)?;
-    }
-    Ok(())
-}
-
-/// A word as the project has it.
-fn form(alloc: Global, ground: &Ground<'_>, word: &[u8]) -> Result<Vec<u8>, AllocError>
-    ensures { let g = ground_in ground.now in IfOk result (λ path. path.items ≡ form g.here g.is_relative word.now) }
-{
-    ground.forms().of_word(alloc, word)
-}
-
-/// The directories of one kind of an include path.
-fn dirs_of(
-    alloc: Global,
-    ground: &Ground<'_>,
-    kind: Kind,
-    rows: &[Row],
-) -> Result<Vec<Vec<u8>>, AllocError>
-    ensures { IfOk result (λ dirs. map (λ d. d.items) dirs.items ≡ spec.dirs_of (ground_in ground.now) kind (map seen_row rows.now)) }
-{
-    let mut dirs = Vec::new(alloc);
-    let mut at = 0;
-    while at < rows.len() {
-        add_row(alloc, ground, kind, &mut dirs, &rows[at])?;
-        at += 1;
-    }
-    Ok(dirs)
-}
-
-/// Whether two kinds are the same.
-fn is_kind(a: Kind, b: Kind) -> bool
-    ensures { result ≡ is_kind a b }
-{
-    match (a, b) {
-        (Kind::Quoted, Kind::Quoted) => true,
-        (Kind::Searched, Kind::Searched) => true,
-        (Kind::System, Kind::System) => true,
-        (Kind::Last, Kind::Last) => true,
-        (Kind::Macros, Kind::Macros) => true,
-        (Kind::Included, Kind::Included) => true,
-        (Kind::Defined, Kind::Defined) => true,
-        (Kind::Undefined, Kind::Undefined) => true,
-        _ => false,
-    }
-}
-
-/// Adds the directory of a row, if it is of this kind.
-fn add_row(
-    alloc: Global,
-    ground: &Ground<'_>,
-    kind: Kind,
-    dirs: &mut Vec<Vec<u8>>,
-    row: &Row,
-) -> Result<(), AllocError>
-    ensures { let g = ground_in ground.now in OnOk result ((rest : List AnyRow) →
-        map (λ d. d.items) dirs.new.items ++ spec.dirs_of g kind rest ≡ map (λ d. d.items) dirs.old.items ++ spec.dirs_of g kind (seen_row row.now ∷ rest)) }
-{
-    if is_kind(row.kind, kind) {
-        dirs.push(Vec::from_slice(alloc, ground.forms().of(&row.path))?)?;
-    }
-    Ok(())
+    let others = other_dirs(alloc, ground, used.as_slice(), files)?;
+    let compiled = compiled_of(alloc, ground, used)?;
+    let notes = notes_of(alloc, seed, ground, found, choice, own, &others)?;
+    Ok(Added {
+        notes,
+        others,
+        compiled,
+    })
 }
 
 /// Words for headers in their form.
@@ -438,22 +370,23 @@ fn headers_of(
     Ok(headers)
 }
 
-/// What is noted of a project.
+/// What is noted of a project with an include path and others.
 fn notes_of(
     alloc: Global,
     seed: u64,
     ground: &Ground<'_>,
     found: &BuildFiles,
     choice: &Choice,
-    dirs: &Dirs,
+    own: &Dirs,
+    others: &[Dirs],
 ) -> Result<Vec<u8>, AllocError>
     ensures { let g = ground_in ground.now in let c = chosen_in choice.now in IfOk result (λ notes. notes.items
-        ≡ spec.notes_of found.now c.absent (spec.skipped_of g.entries [] c.uses) (dirs_in dirs.now)) }
+        ≡ spec.notes_of found.now c.absent (spec.skipped_of g.entries [] c.uses) (dirs_in own.now ∷ map dirs_in others.now)) }
 {
     let mut notes = Vec::new(alloc);
     put_absent(alloc, &mut notes, choice.absent)?;
     put_skipped(alloc, seed, ground, &choice.uses, &mut notes)?;
-    put_empty(alloc, seed, found, dirs, &mut notes)?;
+    put_empty(alloc, seed, found, own, others, &mut notes)?;
     Ok(notes)
 }
 
@@ -472,96 +405,6 @@ fn put_skipped(
     let own = skipped_notes(alloc, &skipped)?;
     own.put(alloc, notes)?;
     Ok(())
-}
-
-/// Adds notes of the directories below which no file of the project is, each once.
-fn put_empty(
-    alloc: Global,
-    seed: u64,
-    found: &BuildFiles,
-    dirs: &Dirs,
-    notes: &mut Vec<u8>,
-) -> Result<(), AllocError>
-    ensures { OnOk result (notes.new.items ≡ notes.old.items ++ some_lines (spec.all_empty found.now (dirs_in dirs.now))) }
-{
-    let own = empty_notes(alloc, seed, found, dirs)?;
-    own.put(alloc, notes)?;
-    Ok(())
-}
-
-/// The notes of the directories below which no file of the project is.
-fn empty_notes(
-    alloc: Global,
-    seed: u64,
-    found: &BuildFiles,
-    dirs: &Dirs,
-) -> Result<Notes, AllocError>
-    ensures { IfOk result (λ notes. notes_in notes ≡ with_lines none (spec.all_empty found.now (dirs_in dirs.now))) }
-{
-    let mut empty = Empty::new(alloc, SeededState::new(seed));
-    empty.add_all(alloc, found, b"-I", &dirs.dirs)?;
-    empty.add_all(alloc, found, b"-isystem", &dirs.system)?;
-    empty.add_all(alloc, found, b"-idirafter", &dirs.last)?;
-    Ok(empty.notes)
-}
-
-/// Notes of directories below which no file of the project is, and the directories that are known.
-#[derive(Drop)]
-struct Empty {
-    notes: Notes,
-    known: IndexSet<Key, SeededState>,
-}
-
-impl Empty {
-    /// None.
-    fn new(alloc: Global, keys: SeededState) -> Empty
-        ensures notes { notes_in result.notes ≡ none }
-        ensures known { result.known.keys ≡ [] }
-    {
-        Empty {
-            notes: Notes::new(alloc),
-            known: IndexSet::with_hasher(alloc, keys),
-        }
-    }
-
-    /// Notes those of some directories that are not known yet.
-    fn add_all(
-        &mut self,
-        alloc: Global,
-        found: &BuildFiles,
-        option: &[u8],
-        dirs: &[Vec<u8>],
-    ) -> Result<(), AllocError>
-        ensures notes { OnOk result (notes_in self.new.notes ≡ with_lines (notes_in self.old.notes)
-            (spec.empty_lines found.now option.now self.old.known.keys (map (λ d. d.items) dirs.now))) }
-        ensures known { OnOk result (self.new.known.keys ≡ spec.once self.old.known.keys (map (λ d. d.items) dirs.now)) }
-    {
-        let mut at = 0;
-        while at < dirs.len() {
-            self.add(alloc, found, option, &dirs[at])?;
-            at += 1;
-        }
-        Ok(())
-    }
-
-    /// Notes a directory, if it is not known yet.
-    fn add(
-        &mut self,
-        alloc: Global,
-        found: &BuildFiles,
-        option: &[u8],
-        dir: &[u8],
-    ) -> Result<(), AllocError>
-        ensures notes { OnOk result (notes_in self.new.notes ≡ with_lines (notes_in self.old.notes)
-            (spec.if_empty found.now option.now self.old.known.keys dir.now)) }
-        ensures known { OnOk result (self.new.known.keys ≡ with_name dir.now self.old.known.keys) }
-    {
-        let is_new = self.known.insert(Key::copied(alloc, dir)?)?;
-        if is_new && !found.has_below(dir) {
-            self.notes.add_empty(alloc, option, dir)?;
-        }
-        Ok(())
-    }
 }
 
 impl BuildProject {

@@ -3,12 +3,16 @@
 #![tactic(auto)]
 
 mod build_choices;
+mod build_dirs;
+mod build_empty;
 mod build_entries;
 mod build_files;
 mod build_grounds;
 mod build_macros;
 mod build_paths;
+mod build_places;
 mod build_projects;
+mod build_sources;
 mod build_texts;
 mod defines;
 mod ends;
@@ -28,7 +32,8 @@ mod texts;
 mod undefined_names;
 
 pub use build_macros::{MacroWord, with_macros};
-pub use build_projects::{BuildProject, find_preprocessing, find_question};
+pub use build_places::{other_paths, read_with};
+pub use build_projects::{Added, BuildProject, find_preprocessing, find_question};
 pub use defines::read_defines;
 pub use ends::{EndPaths, are_ends, asked_ends};
 pub use failures::{Failure, Hindrance, read_failure, unread, written};

@@ -46,7 +46,10 @@ pub fn include_path<'a>(
 }
 
 /// Directories as they are written.
-fn names_of<'a>(alloc: Global, dirs: &[NamedDir<'a>]) -> Result<Vec<&'a [u8]>, AllocError>
+pub(crate) fn names_of<'a>(
+    alloc: Global,
+    dirs: &[NamedDir<'a>],
+) -> Result<Vec<&'a [u8]>, AllocError>
     ensures { IfOk result (λ names. map (λ n. n.now) names.items ≡ dir_names dirs.now) }
 {
     let mut names = Vec::with_capacity(alloc, dirs.len())?;

@@ -235,7 +235,7 @@ fold_all : (P : List ℕ → Type 0) (done paths : List (List ℕ)) → All P do
 fold_all P done [] all rest = all
 fold_all P done (p ∷ ps) all rest = fold_all P (with_path done p) ps (with_all P done p all (rest 0 p (omega arith))) (λ k d low. rest (suc k) d (omega (arith, low)))
 
-once_all : (P : List ℕ → Type 0) (paths : List (List ℕ)) → All P paths → All P (each_once paths)
+pub once_all : (P : List ℕ → Type 0) (paths : List (List ℕ)) → All P paths → All P (each_once paths)
 once_all P paths all = fold_all P [] paths (λ k d low. absurd (omega (arith, low))) all
 
 -- the first fault of the three

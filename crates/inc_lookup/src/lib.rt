@@ -12,6 +12,7 @@ mod path_keys;
 mod path_lists;
 mod paths;
 mod projects;
+mod search_dirs;
 mod simple_names;
 mod sources;
 
@@ -21,4 +22,5 @@ pub use listings::LONGEST_PATH;
 pub use name_lists::NameList;
 pub use paths::normalise;
 pub use projects::{DirectiveId, FileId, Form, Found, MOST_FILES, Project, ProjectFault};
+pub use search_dirs::IncludePath;
 pub use sources::{HeldFiles, SourceFile, Sources};

@@ -10,9 +10,10 @@ ghost use Rattle.inc_lookup.specs.declared.projects.Form.TheVariants.{Quoted};
 ghost use Rattle.inc_lookup.specs.Projects.{project_of, found_file, found_place, found_as, found_at, joined_path, directory_of, is_clean_path, path_at, place_of};
 
 use crate::header_names::{Reduced, Reduction, is_plain};
-use crate::listings::{PathTable, dir_paths, each_once, file_paths};
+use crate::listings::{PathTable, dir_paths, file_paths};
 use crate::path_lists::PathList;
 use crate::paths::is_absolute;
+use crate::search_dirs::IncludePath;
 use memchr::memrchr;
 use std::alloc::{AllocError, AllocFailed, Global};
 use std::marker::Model;
@@ -126,8 +127,8 @@ pub struct Project<'a> {
     paths: PathList<'a>,
     /// No path has more bytes.
     longest: usize,
-    /// The directories of the include path, each once.
-    dirs: PathList<'a>,
+    /// Its own include path.
+    dirs: IncludePath,
     /// Tables of this run are hashed with it.
     seed: u64,
 }
@@ -147,9 +148,9 @@ impl<'a> Model for Project<'a> {
 pub const MOST_FILES: usize = 65_535;
 
 impl<'a> Project<'a> {
-    /// A project of files with these paths, in their order, and of these search directories. The seed is that of the table of
-    /// paths and of all other tables of a run, so that whoever writes the files cannot choose names that make look-ups slow: a program
-    /// draws it anew for each run.
+    /// A project of files with these paths, in their order, and of these search directories, which are its own include path. The seed is
+    /// that of the table of paths and of all other tables of a run, so that whoever writes the files cannot choose names that make
+    /// look-ups slow: a program draws it anew for each run.
     pub fn new(
         alloc: Global,
         seed: u64,
@@ -171,7 +172,7 @@ impl<'a> Project<'a> {
             return Err(ProjectFault::SamePath { first, second });
         }
         let longest = paths.longest();
-        let dirs = each_once(alloc, seed, &dirs)?;
+        let dirs = IncludePath::of_forms(alloc, seed, &dirs)?;
         Ok(Project {
             paths,
             longest,
@@ -183,6 +184,13 @@ impl<'a> Project<'a> {
     /// The seed that it was made with.
     pub fn seed(&self) -> u64 {
         self.seed
+    }
+
+    /// Its own include path.
+    pub fn include_path(&self) -> &IncludePath
+        ensures { result.now ≡ self.now.dirs }
+    {
+        &self.dirs
     }
 
     /// How many files there are: at most [`MOST_FILES`].
@@ -298,12 +306,31 @@ impl<'a> Project<'a> {
         ensures within { IfOk result (λ found. IfSome found
             (λ f. f.file < length self.now.paths)) }
     {
+        self.find_in(alloc, &self.dirs, from, form, after, name)
+    }
+
+    /// As [`Project::find_from`], in another include path in place of the project's own.
+    pub fn find_in(
+        &self,
+        alloc: Global,
+        dirs: &IncludePath,
+        from: FileId,
+        form: Form,
+        after: Option<usize>,
+        name: &[u8],
+    ) -> Result<Option<Found>, AllocError>
+        requires { from < length self.now.paths }
+        ensures found { IfOk result (λ found. found
+            ≡ found_place (record { paths = self.now.paths; dirs = dirs.now }) (path_at self.now from) form after name.now) }
+        ensures within { IfOk result (λ found. IfSome found
+            (λ f. f.file < length self.now.paths)) }
+    {
         if is_plain(name) {
             let plain = Reduced {
                 climbs: 0,
                 rest: name,
             };
-            return self.look(alloc, from, form, after, &plain);
+            return self.look(alloc, dirs, from, form, after, &plain);
         }
         let reduction = Reduction::new(alloc, name)?;
         let reduced = Reduced {
@@ -314,13 +341,14 @@ impl<'a> Project<'a> {
             let mut buffer = Vec::new(alloc);
             return self.look_at(&mut buffer, b"/", &reduced, None);
         }
-        self.look(alloc, from, form, after, &reduced)
+        self.look(alloc, dirs, from, form, after, &reduced)
     }
 
     /// The first file with this relative name where a directive of this form looks for it. All candidates are made in one buffer.
     fn look(
         &self,
         alloc: Global,
+        dirs: &IncludePath,
         from: FileId,
         form: Form,
         after: Option<usize>,
@@ -329,17 +357,17 @@ impl<'a> Project<'a> {
         requires { from < length self.now.paths }
         ensures found { IfOk result (λ found. (text : List ℕ) →
             IsReduced text name.now.climbs name.now.rest.now → is_absolute text ≡ false →
-            found ≡ found_place self.now (path_at self.now from) form after text) }
+            found ≡ found_place (record { paths = self.now.paths; dirs = dirs.now }) (path_at self.now from) form after text) }
         ensures within { IfOk result (λ found. IfSome found
             (λ f. f.file < length self.now.paths)) }
     {
         let mut buffer = Vec::new(alloc);
         if let Some(first) = after {
-            return self.look_in_dirs(&mut buffer, first, name);
+            return self.look_in_dirs(&mut buffer, dirs, first, name);
         }
         match form {
-            Form::Quoted => self.look_from(&mut buffer, from, name),
-            Form::Angled => self.look_in_dirs(&mut buffer, 0, name),
+            Form::Quoted => self.look_from(&mut buffer, dirs, from, name),
+            Form::Angled => self.look_in_dirs(&mut buffer, dirs, 0, name),
         }
     }
 
@@ -347,13 +375,14 @@ impl<'a> Project<'a> {
     fn look_from(
         &self,
         buffer: &mut Vec<u8>,
+        dirs: &IncludePath,
         from: FileId,
         name: &Reduced<'_>,
     ) -> Result<Option<Found>, AllocError>
         requires { from < length self.now.paths }
         ensures found { IfOk result (λ found. (text : List ℕ) →
             IsReduced text name.now.climbs name.now.rest.now → is_absolute text ≡ false →
-            found ≡ found_place self.now (path_at self.now from) Quoted None text) }
+            found ≡ found_place (record { paths = self.now.paths; dirs = dirs.now }) (path_at self.now from) Quoted None text) }
         ensures within { IfOk result (λ found. IfSome found
             (λ f. f.file < length self.now.paths)) }
     {
@@ -361,24 +390,25 @@ impl<'a> Project<'a> {
         if let Some(found) = self.look_at(buffer, dir, name, Some(0))? {
             return Ok(Some(found));
         }
-        self.look_in_dirs(buffer, 0, name)
+        self.look_in_dirs(buffer, dirs, 0, name)
     }
 
     /// The first file with this name in the directories of the include path from a place on.
     fn look_in_dirs(
         &self,
         buffer: &mut Vec<u8>,
+        dirs: &IncludePath,
         first: usize,
         name: &Reduced<'_>,
     ) -> Result<Option<Found>, AllocError>
         ensures found { IfOk result (λ found. (text : List ℕ) →
             IsReduced text name.now.climbs name.now.rest.now → is_absolute text ≡ false →
-            found ≡ found_in self.now.paths self.now.dirs first text) }
+            found ≡ found_in self.now.paths dirs.now first text) }
         ensures within { IfOk result (λ found. IfSome found
             (λ f. f.file < length self.now.paths)) }
     {
-        for index in first..self.dirs.len() {
-            let dir = self.dirs.path(index);
+        for index in first..dirs.len() {
+            let dir = dirs.dir(index);
             if let Some(found) = self.look_at(buffer, dir, name, Some(index + 1))? {
                 return Ok(Some(found));
             }

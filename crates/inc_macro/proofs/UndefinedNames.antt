@@ -7,7 +7,7 @@ use Rattle.std.proofs.lemmas.Slice.Eq.{bytes_eq-Decides}
 use Rattle.inc_text.specs.declared.languages.Language.{Language}
 use Rattle.inc_text.specs.declared.languages.Language.TheVariants.{C17, Extended, Gnu}
 use Rattle.inc_token.specs.TokenLines.{Tok}
-use Rattle.inc_macro.specs.Macros.{Definition, Table, after_first, asks_headers, define, definition_after, definition_in, definition_of, is_among, is_defined, is_identifier_kind, is_reserved, name_at, pop_macro, popped, predefined_names, push_macro, redefined, same_definition, undef, with_definition, with_words, define_word, word_tokens, without}
+use Rattle.inc_macro.specs.Macros.{Definition, Table, after_first, asks_headers, define, definition_after, definition_in, definition_of, is_among, is_defined, is_identifier_kind, is_reserved, name_at, pop_macro, popped, predefined_names, push_macro, redefined, same_definition, undef, with_definition, with_found, with_words, define_word, word_tokens, without}
 use Rattle.inc_macro.specs.Results.{◌>>=◌}
 use Rattle.inc_macro.specs.declared.faults.DefineFault.{DefineFault}
 use Rattle.inc_macro.specs.declared.faults.DefineFault.TheVariants.{NoName, ReservedName}
@@ -176,6 +176,14 @@ push_absent other name table absent = (absent.0, by (bytes_eq name other) refl)
     by : (b : Bool) → bytes_eq name other ≡ b → AreNone (cond b (table.find other ∷ table.aside other) (table.aside name))
     by true same = subst (λ n. AreNone (table.find n ∷ table.aside n)) ((bytes_eq-Decides name other).0 same) (absent.0.1, absent.1)
     by false apart = absent.1
+
+-- after any name has no definition any more
+pub none_absent : (other name : List ℕ) (table : Table) → IsAbsent name table → IsAbsent name (with_found other None table)
+none_absent other name table absent = ((absent.0.0, there (bytes_eq name other)), absent.1)
+  where
+    there : (b : Bool) → cond b None (table.find name) ≡ None
+    there true = refl
+    there false = absent.0.1
 
 popped_absent : (other name : List ℕ) (table : Table) (os : List (Option Definition)) → IsAbsent name table → (name ≡ other → AreNone os) → IsAbsent name (popped other os table)
 popped_absent other name table [] absent all = absent

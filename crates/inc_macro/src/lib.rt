@@ -19,6 +19,7 @@ mod variables;
 
 pub use definitions::Definition;
 pub use faults::{DefineFault, WordFault};
+pub use name_sets::DistinctNames;
 pub use parameters::Parameters;
 pub use reserved_names::is_reserved;
 pub use roles::Role;

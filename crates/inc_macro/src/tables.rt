@@ -365,10 +365,17 @@ impl Macros {
                 Ok(())
             }
             None => {
-                self.table.swap_remove(KeyRef { bytes: name });
+                self.remove(name);
                 Ok(())
             }
         }
+    }
+
+    /// Has a name have no definition. What was put aside of it stays.
+    pub fn remove(&mut self, name: &[u8])
+        ensures { with_found name.now None (table_of self.old) ≡ table_of self.new }
+    {
+        self.table.swap_remove(KeyRef { bytes: name });
     }
 
     /// Has the name of a definition have it.

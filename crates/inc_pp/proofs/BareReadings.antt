@@ -1,6 +1,6 @@
 -- A preprocessing reads bare trees as it reads the trees, and of a project it sees the settings, the paths and the
 -- trees.
-use Rattle.std.proofs.Common.{◌≡◌, ℕ, nat_lt, Bool, true, false, List, [], ◌∷◌, ◌++◌, Option, Some, None, Result, Ok, Err, option_map, refl, sym, ap, ◌∙◌}
+use Rattle.std.proofs.Common.{◌≡◌, ℕ, nat_lt, Bool, true, false, cond, List, [], ◌∷◌, ◌++◌, Option, Some, None, Result, Ok, Err, map, option_map, refl, sym, ap, ◌∙◌}
 use Rattle.inc_token.specs.declared.kinds.IncludeName.{IncludeName}
 use Rattle.inc_token.specs.TokenLines.{Tok}
 use Rattle.inc_directive.specs.Groups.{FileLine, Group, Empty, Run, Control, Section, Branches, Branch, Otherwise, Close}
@@ -12,16 +12,19 @@ use Rattle.inc_lookup.specs.declared.projects.DirectiveId.{DirectiveId}
 use Rattle.inc_lookup.specs.declared.projects.Found.{Found}
 use Rattle.inc_lookup.specs.Projects.{Layout, Listing, found_place, layout_of, path_at}
 use Rattle.inc_macro.specs.Results.{◌>>=◌}
+use Rattle.inc_expand.specs.declared.faults.ExpandFault.TheVariants.{UnclosedCall}
+use Rattle.inc_expand.specs.Openings.{Held, held_source}
 use Rattle.inc_cond.specs.Conditions.{condition}
 use Rattle.inc_pp.specs.declared.causes.Cause.{Cause}
 use Rattle.inc_pp.specs.declared.causes.Cause.TheVariants as cause
-use Rattle.inc_pp.specs.Directives.{changed, control_of, directive_read}
+use Rattle.inc_pp.specs.Directives.{changed, control_line, control_of, control_read, directive_read, ends_call, released_for}
 use Rattle.inc_pp.specs.Files.{FileFault}
 use Rattle.inc_pp.specs.Includes.{Header, entry_in, header_of, include_target, included, led_to}
 use Rattle.inc_pp.specs.Preprocessing.{group_read, section_read, tree_read}
-use Rattle.inc_pp.specs.OpenCalls.{open_in}
-use Rattle.inc_pp.specs.Runs.{released, run_put, run_read, text_read, tokens_read, waiting_read, with_meter, with_waiting}
-use Rattle.inc_pp.specs.Sections.{condition_of, if_true, is_taken, is_true, operands}
+use Rattle.inc_pp.specs.OpenCalls.{called_name, first_line_in, open_behind, open_in_call, spellings}
+use Rattle.inc_pp.specs.Poison.{asked, asked_directive, line_asked}
+use Rattle.inc_pp.specs.Runs.{asked_read, line_of_run, released, released_at, run_given, run_read, text_read, tokens_read, with_meter, with_waiting}
+use Rattle.inc_pp.specs.Sections.{condition_of, if_true, is_chosen, is_taken, is_true, operands}
 use Rattle.inc_pp.specs.Settings.{Settings}
 use Rattle.inc_pp.specs.Tasks.{File, State, Entry, Here, Halt, Deeper, caused, halting, place_of}
 use Rattle.inc_pp.proofs.BareTrees.{bare, bare_branches, bare_run, unplaced, run_bare}
@@ -58,21 +61,30 @@ module _ (settings : Settings) (one two : Listing) (without others : List Direct
 
   tokens_same : (ts : List Tok) (s : State) (h : Here) → tokens_read f ts s h ≡ tokens_read g ts s h
   tokens_same ts s h =
-      ap (λ (r : Result State Halt). r >>= λ t. Ok (t, with_waiting [] 0 h)) (halting_same f g refl (line_of_tokens ts) s (run_put f h s ts))
+      ap (λ (r : Result (State × List Held) Halt). r >>= λ x. Ok (x.0, with_waiting x.1 (open_in_call x.1) h)) (halting_same f g refl (line_of_run h.waiting ts) s (run_given f h s ts))
 
   wait_same : (b : Bool) (x : Result (State × Here) Halt) (ts : List Tok) (s : State) (h : Here)
       → ◌≡◌ {A = Result (State × Here) Halt} (elim b [ true ↦ x | false ↦ tokens_read f ts s h ]) (elim b [ true ↦ x | false ↦ tokens_read g ts s h ])
   wait_same true x ts s h = refl
   wait_same false x ts s h = tokens_same ts s h
 
+  waits_same : (ts : List Tok) (s : State) (h : Here) → asked_read f ts s h ≡ asked_read g ts s h
+  waits_same ts s h =
+      wait_same (nat_lt 0 (open_behind h.deep (spellings ts))) (Ok (s, with_waiting (h.waiting ++ map held_source ts) (open_behind h.deep (spellings ts)) h)) ts s h
+
   text_same : (ts : List Tok) (s : State) (h : Here) → text_read f ts s h ≡ text_read g ts s h
   text_same [] s h = refl
   text_same (t ∷ ts) s h =
-      wait_same (nat_lt 0 (open_in s.table h.deep (t ∷ ts))) (Ok (s, with_waiting (h.waiting ++ t ∷ ts) (open_in s.table h.deep (t ∷ ts)) h)) (h.waiting ++ t ∷ ts) s h
+      ap (λ (r : Result (List Tok) Halt). r >>= λ _. asked_read f (t ∷ ts) s h) (halting_same f g refl (line_of_tokens (t ∷ ts)) s (asked s.poisoned (t ∷ ts)))
+      ∙ ap (λ (r : Result (State × Here) Halt). halting g (line_of_tokens (t ∷ ts)) s (asked s.poisoned (t ∷ ts)) >>= λ _. r) (waits_same (t ∷ ts) s h)
 
-  waiting_same : (ts : List Tok) (s : State) (h : Here) → waiting_read f ts s h ≡ waiting_read g ts s h
-  waiting_same [] s h = refl
-  waiting_same (t ∷ ts) s h = tokens_same (t ∷ ts) s h
+  waiting_same : (line : Option ℕ) (s : State) (h : Here) → released_at f line s h ≡ released_at g line s h
+  waiting_same None s h = refl
+  waiting_same (Some line) s h = halting_same f g refl line s (Err (cause.Expand UnclosedCall))
+
+  before_same : (l : FileLine) (s : State) (h : Here) → released_for l f s h ≡ released_for (unplaced l) g s h
+  before_same l s h =
+      ap (λ (r : Result (State × Here) Halt). cond (ends_call l.kind s.table.language (called_name h.waiting) (operands l)) r (Ok (s, h))) (waiting_same (first_line_in h.waiting) s h)
 
   run_same : (ls : List FileLine) (s : State) (h : Here) → run_read f ls s h ≡ run_read g (bare_run ls) s h
   run_same ls s h =
@@ -95,10 +107,19 @@ module _ (settings : Settings) (one two : Listing) (without others : List Direct
   condition_same (Other Elifndef) l s h = refl
   condition_same _ l s h = true_same l s h
 
-  taken_same : (l : FileLine) (s : State) (h : Here) → is_taken f l s h ≡ is_taken g (unplaced l) s h
-  taken_same l s h =
+  -- a line in which no name was taken away
+  asked_same : (l : FileLine) (s : State) → line_asked f l s ≡ line_asked g (unplaced l) s
+  asked_same l s = halting_same f g refl (line_of_tokens l.tokens) s (asked_directive s l.tokens)
+
+  chosen_same : (l : FileLine) (s : State) (h : Here) → is_chosen f l s h ≡ is_chosen g (unplaced l) s h
+  chosen_same l s h =
       halting_same f g refl (line_of_tokens l.tokens) s (condition_of l.kind f l s h)
       ∙ ap (halting g (line_of_tokens l.tokens) s) (condition_same l.kind l s h)
+
+  taken_same : (l : FileLine) (s : State) (h : Here) → is_taken f l s h ≡ is_taken g (unplaced l) s h
+  taken_same l s h =
+      ap (λ (r : Result (List Tok) Halt). r >>= λ _. is_chosen f l s h) (asked_same l s)
+      ∙ ap (λ (r : Result (Bool × State) Halt). line_asked g (unplaced l) s >>= λ _. r) (chosen_same l s h)
 
   header_same : (target : Target) (l : FileLine) (s : State) (h : Here)
       → header_of target f l s h ≡ header_of target g (unplaced l) s h
@@ -145,10 +166,15 @@ module _ (settings : Settings) (one two : Listing) (without others : List Direct
       halting_same f g refl (line_of_tokens l.tokens) s (changed k f l s h)
       ∙ ap (halting g (line_of_tokens l.tokens) s) (changed_same k l s h)
 
+  read_same : (l : FileLine) (s : State) (h : Here) → control_read f l s h ≡ control_read g (unplaced l) s h
+  read_same l s h =
+      ap (λ (r : Result (List Tok) Halt). r >>= λ _. control_line f l s h) (asked_same l s)
+      ∙ ap (λ (r : Result (State × Here) Halt). line_asked g (unplaced l) s >>= λ _. r) (control_same l.kind l s h)
+
   directive_same : (l : FileLine) (s : State) (h : Here) → directive_read f l s h ≡ directive_read g (unplaced l) s h
   directive_same l s h =
-      ap (λ (r : Result (State × Here) Halt). r >>= λ p. control_of l.kind f l p.0 p.1) (waiting_same h.waiting s h)
-      ∙ then_same (released g s h) (λ p. control_of l.kind f l p.0 p.1) (λ p. control_of l.kind g (unplaced l) p.0 p.1) (λ p. control_same l.kind l p.0 p.1)
+      ap (λ (r : Result (State × Here) Halt). r >>= λ p. control_read f l p.0 p.1) (before_same l s h)
+      ∙ then_same (released_for (unplaced l) g s h) (λ p. control_read f l p.0 p.1) (λ p. control_read g (unplaced l) p.0 p.1) (λ p. read_same l p.0 p.1)
 
   mutual
     group_same : (t : Group) (s : State) (h : Here) → group_read f t s h ≡ group_read g (bare t) s h
@@ -184,5 +210,5 @@ module _ (settings : Settings) (one two : Listing) (without others : List Direct
   tree_same (Ok t) s h =
       ap (λ (r : Result (State × Here) Halt). r >>= λ x. released f x.0 x.1 >>= λ q. Ok q.0) (group_same t s h)
       ∙ then_same (group_read g (bare t) s h) (λ x. released f x.0 x.1 >>= λ q. Ok q.0) (λ x. released g x.0 x.1 >>= λ q. Ok q.0)
-      (λ x. ap (λ (r : Result (State × Here) Halt). r >>= λ q. Ok q.0) (waiting_same x.1.waiting x.0 x.1))
+      (λ x. ap (λ (r : Result (State × Here) Halt). r >>= λ q. Ok q.0) (waiting_same (first_line_in x.1.waiting) x.0 x.1))
   tree_same (Err fault) s h = halting_same f g refl fault.1 s (Err fault.0)

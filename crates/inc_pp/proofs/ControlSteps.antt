@@ -15,7 +15,7 @@ use Rattle.inc_expand.specs.Expansion.{Item, Meter, Place}
 use Rattle.inc_pp.specs.declared.causes.Cause.{Cause}
 use Rattle.inc_pp.specs.declared.causes.Cause.TheVariants as cause
 use Rattle.inc_pp.specs.DirectiveSteps.{header_at, here_by, wanted_at, renumbered_at, changed_by}
-use Rattle.inc_pp.specs.Directives.{Numbering, counted, line_operands, renumbered, changed, control_of, control_read, with_numbering, with_table}
+use Rattle.inc_pp.specs.Directives.{Numbering, counted, line_operands, renumbered, changed, control_of, control_line, with_numbering, with_table}
 use Rattle.inc_pp.specs.Includes.{Header, after_found, entered, entry_in, found_from, header_in, header_of, led_to, wanted, include_target, included}
 use Rattle.inc_pp.specs.LineMarkers.{marks_of}
 use Rattle.inc_pp.specs.Runs.{marks_in, with_meter}
@@ -88,7 +88,7 @@ module _ (f : File) (l : FileLine) (s : State) (h : Here) (layout : Layout) (set
         ∙ ap (λ o. found_place layout (path_at layout from.file) header.form (search_after n o) header.name) is.next
 
     include-is : (r : Result (Option Entry × State) Cause) → include_target n target f l s h ≡ r →
-        control_read f l s h ≡ (halting f (line_of_tokens l.tokens) s r >>= λ x. included f.deeper x.0 x.1 h)
+        control_line f l s h ≡ (halting f (line_of_tokens l.tokens) s r >>= λ x. included f.deeper x.0 x.1 h)
     include-is r e =
         ap (λ k. control_of k f l s h) kind_is
         ∙ ap (λ (q : Result (Option Entry × State) Cause). halting f (line_of_tokens l.tokens) s q >>= λ x. included f.deeper x.0 x.1 h) e
@@ -121,7 +121,7 @@ module _ (f : File) (l : FileLine) (s : State) (h : Here) (layout : Layout) (set
         ∙ ap (λ b. wanted_at n settings.missing b t o) is.deeper
 
     pub header-stop : (line : ℕ) (c : Cause) → line ≡ line_of_tokens l.tokens →
-        header_at target (place_under settings h) s.table s.meter (operands l) ≡ Err c → control_read f l s h ≡ Err (halt_at f s line c)
+        header_at target (place_under settings h) s.table s.meter (operands l) ≡ Err c → control_line f l s h ≡ Err (halt_at f s line c)
     header-stop line c where_is e =
         include-is (Err c) (headed (Err c) (target-is (Err c) e)) ∙ ap (λ m. Err (halt_at f s m c)) (sym where_is)
 
@@ -138,14 +138,14 @@ module _ (f : File) (l : FileLine) (s : State) (h : Here) (layout : Layout) (set
           ∙ ap (λ (k : Found → Entry). (w >>= λ at. Ok (at, after_found n o t)) >>= put k) (enter-is header.name)
 
       pub include-done : (new : State) (found : Option Found) (entry : Option Entry) → wanted_at n settings.missing nests t o ≡ Ok found → new ≡ after_found n o t →
-          entry ≡ option_map (enter header.name) found → control_read f l s h ≡ included f.deeper entry new h
+          entry ≡ option_map (enter header.name) found → control_line f l s h ≡ included f.deeper entry new h
       include-done new found entry g after made =
           include-is (Ok (option_map (enter header.name) found, after_found n o t)) (leads (Ok found) g)
           ∙ ap (λ (u : State). included f.deeper (option_map (enter header.name) found) u h) (sym after)
           ∙ ap (λ (e : Option Entry). included f.deeper e new h) (sym made)
 
       pub found-stop : (line : ℕ) (c : Cause) → line ≡ line_of_tokens l.tokens → wanted_at n settings.missing nests t o ≡ Err c →
-          control_read f l s h ≡ Err (halt_at f s line c)
+          control_line f l s h ≡ Err (halt_at f s line c)
       found-stop line c where_is g = include-is (Err c) (leads (Err c) g) ∙ ap (λ m. Err (halt_at f s m c)) (sym where_is)
 
 ---- `#line`
@@ -226,16 +226,16 @@ module _ (f : File) (l : FileLine) (s : State) (h : Here) (file : ℕ) (at : f.i
 
 ---- all but include directives
 
-pub text-done : (f : File) (l : FileLine) (s : State) (h : Here) → l.kind ≡ Text → control_read f l s h ≡ included f.deeper None s h
+pub text-done : (f : File) (l : FileLine) (s : State) (h : Here) → l.kind ≡ Text → control_line f l s h ≡ included f.deeper None s h
 text-done f l s h kind_is = ap (λ k. control_of k f l s h) kind_is ∙ sym (nothing f.deeper s h)
 
 module _ (f : File) (l : FileLine) (s : State) (h : Here) (k : DirectiveKind) (kind_is : l.kind ≡ Other k) where
-  other-is : (r : Result (State × Here) Cause) → changed k f l s h ≡ r → control_read f l s h ≡ halting f (line_of_tokens l.tokens) s r
+  other-is : (r : Result (State × Here) Cause) → changed k f l s h ≡ r → control_line f l s h ≡ halting f (line_of_tokens l.tokens) s r
   other-is r e =
       ap (λ j. control_of j f l s h) kind_is ∙ ap (λ (q : Result (State × Here) Cause). halting f (line_of_tokens l.tokens) s q) e
 
-  pub other-done : (new : State) (after : Here) → changed k f l s h ≡ Ok (new, after) → control_read f l s h ≡ included f.deeper None new after
+  pub other-done : (new : State) (after : Here) → changed k f l s h ≡ Ok (new, after) → control_line f l s h ≡ included f.deeper None new after
   other-done new after e = other-is (Ok (new, after)) e ∙ sym (nothing f.deeper new after)
 
-  pub other-stop : (line : ℕ) (c : Cause) → line ≡ line_of_tokens l.tokens → changed k f l s h ≡ Err c → control_read f l s h ≡ Err (halt_at f s line c)
+  pub other-stop : (line : ℕ) (c : Cause) → line ≡ line_of_tokens l.tokens → changed k f l s h ≡ Err c → control_line f l s h ≡ Err (halt_at f s line c)
   other-stop line c where_is e = other-is (Err c) e ∙ ap (λ n. Err (halt_at f s n c)) (sym where_is)

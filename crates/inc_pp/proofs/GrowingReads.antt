@@ -1,5 +1,6 @@
 -- What a preprocessing has read stays the beginning of what it reads.
-use Rattle.std.proofs.Common.{◌≡◌, sym, ap, ◌∙◌, ℕ, zero, suc, ◌-◌, Bool, true, false, cond, List, [], ◌∷◌, ◌++◌, Option, Some, None, Result, Ok, Err, length, nat_lt}
+use Rattle.std.proofs.Common.{◌≡◌, sym, ap, ◌∙◌, ℕ, zero, suc, ◌-◌, Bool, true, false, cond, List, [], ◌∷◌, ◌++◌, Option, Some, None, Result, Ok, Err, drop, length, map, nat_lt, ◌&&◌}
+use Rattle.std.specs.List.{list_all}
 use Rattle.std.specs.Prelude.{IfSome}
 use Rattle.std.proofs.lemmas.List.{append_assoc, append-nil}
 use Rattle.inc_token.specs.declared.kinds.IncludeName.{IncludeName}
@@ -12,19 +13,27 @@ use Rattle.inc_directive.specs.Runs.{run_tokens}
 use Rattle.inc_token.specs.TokenLines.{Tok}
 use Rattle.inc_macro.specs.Results.{◌>>=◌}
 use Rattle.inc_directive.specs.Parts.{lines_from}
-use Rattle.inc_expand.specs.Expansion.{Item}
+use Rattle.inc_text.specs.declared.languages.Language.{Language}
+use Rattle.inc_text.specs.Languages.{is_gnu}
+use Rattle.inc_expand.specs.declared.faults.ExpandFault.TheVariants.{UnclosedCall}
+use Rattle.inc_expand.specs.declared.places.Mode.TheVariants.{Plain}
+use Rattle.inc_expand.specs.Expansion.{Item, Meter}
+use Rattle.inc_expand.specs.Openings.{Held as HeldToken, held_source, opening}
 use Rattle.inc_pp.specs.declared.causes.Cause.{Cause}
+use Rattle.inc_pp.specs.declared.causes.Cause.TheVariants.{BadPragma, Expand}
 use Rattle.inc_pp.specs.declared.frames.Frame.{Frame}
-use Rattle.inc_pp.specs.Directives.{after_pragma, line_operands, names_once, changed, control_of, is_stacking, restacked, with_table}
+use Rattle.inc_pp.specs.Directives.{after_pragma, line_operands, names_once, changed, control_of, ends_call, is_stacking, released_for, restacked, with_table}
 use Rattle.inc_pp.specs.Files.{FileFault, tree_of}
 use Rattle.inc_pp.specs.Includes.{Header, after_found, found_from, header_of, include_target, included, is_import, led_to}
 use Rattle.inc_pp.specs.Preprocessing.{group_read, section_read, tree_read, file_read, reading, most_depth, outcome_of, with_read}
-use Rattle.inc_pp.specs.OpenCalls.{open_in}
-use Rattle.inc_pp.specs.Runs.{expanded, run_put, run_read, text_read, tokens_read, waiting_read, with_waiting}
+use Rattle.inc_pp.specs.OpenCalls.{called_name, first_line_in, open_behind, spellings}
+use Rattle.inc_pp.specs.Pragmas.{Laid, laid}
+use Rattle.inc_pp.specs.Poison.{asked, asked_directive, is_poisonable, line_asked, names_poison, poison, poison_all, poisoned_by}
+use Rattle.inc_pp.specs.Runs.{closed_or, expanded, is_unclosed, line_of_run, marks_in, put_laid, released_at, run_expanded, run_given, run_opened, run_read, text_read, tokens_read, with_meter, with_waiting}
 use Rattle.inc_pp.specs.Sections.{condition_of, operands}
-use Rattle.inc_pp.specs.Tasks.{Task, State, Entry, Here, Halt, Deeper, File, layout_in, start}
+use Rattle.inc_pp.specs.Tasks.{Task, State, Entry, Here, Halt, Deeper, File, caused, layout_in, place_of, start}
 use Rattle.inc_pp.specs.Walks.{Held, all_read, deeper_at, ending_read, file_at, lines_read, parts_in, open_read}
-use Rattle.inc_pp.proofs.KeptSteps.{Keeps, keeps_ok, keeps_err, keeps_after, keeps_then, Holds, holds_ok, holds_then, holds_halting}
+use Rattle.inc_pp.proofs.KeptSteps.{Keeps, keeps_ok, keeps_err, keeps_any, keeps_after, keeps_then, Holds, holds_ok, holds_then, holds_halting}
 
 -- the list begins with what was there before
 record Begins (before : List ℕ) (all : List ℕ) : Type 0 where
@@ -55,11 +64,46 @@ module _ (before : List ℕ) where
   expanded_on : (f : File) (h : Here) (s : State) (ts : List Tok) → IsOn s → Keeps (IsOnAfter (List Item)) (expanded f h s ts)
   expanded_on f h s ts n = keeps_after _ (λ x. keeps_ok n)
 
-  put_on : (f : File) (h : Here) (s : State) (ts : List Tok) → IsOn s → Keeps IsOn (run_put f h s ts)
+  -- the state after a run, and the call that waits
+  abbrev IsOnGiven : State × List HeldToken → Type 0
+  IsOnGiven r = IsOn r.0
+
+  put_on : (f : File) (h : Here) (s : State) (ts : List Tok) → IsOn s → Keeps IsOn (run_expanded f h s ts)
   put_on f h s ts n = keeps_then (expanded_on f h s ts n) (λ r k. keeps_after _ (λ l. keeps_ok k))
 
+  laid_on : (file : ℕ) (s : State) (call : List HeldToken) (meter : Meter) (r : Result Laid Cause) → IsOn s → Keeps IsOnGiven (r >>= λ l. Ok (put_laid file l (with_meter meter s), call))
+  laid_on file s call meter (Ok l) n = keeps_ok n
+  laid_on file s call meter (Err c) n = keeps_err
+
+  items_on : (f : File) (h : Here) (s : State) (r : Result (List Item × List HeldToken × Meter) Cause) → IsOn s
+      → Keeps IsOnGiven (r >>= λ x. laid s.table.language (marks_in f h) None x.0 >>= λ l. Ok (put_laid f.index l (with_meter x.2 s), x.1))
+  items_on f h s (Ok x) n = laid_on f.index s x.1 x.2 (laid s.table.language (marks_in f h) None x.0) n
+  items_on f h s (Err c) n = keeps_err
+
+  opened_on : (f : File) (h : Here) (s : State) (ts : List Tok) → IsOn s → Keeps IsOnGiven (run_opened f h s ts)
+  opened_on f h s ts n = items_on f h s (caused Expand (opening (record { table = s.table; mode = Plain; place = place_of f h }) s.meter h.waiting ts)) n
+
+  closed_on : (language : Language) (r : Result State Cause) (opened : Result (State × List HeldToken) Cause) → Keeps IsOn r → Keeps IsOnGiven opened → Keeps IsOnGiven (closed_or language r opened)
+  closed_on language (Ok t) opened n k = keeps_ok n.value
+  closed_on language (Err c) opened n k = by (is_gnu language && is_unclosed c)
+    where
+      by : (b : Bool) → Keeps IsOnGiven (cond {A = Result (State × List HeldToken) Cause} b opened (Err c))
+      by true = k
+      by false = keeps_err
+
+  given_on : (f : File) (h : Here) (s : State) (ts : List Tok) → IsOn s → Keeps IsOnGiven (run_given f h s ts)
+  given_on f h s ts n = by h.waiting (closed_on s.table.language (run_expanded f h s ts) (run_opened f h s ts) (put_on f h s ts n) (opened_on f h s ts n)) (opened_on f h s ts n)
+    where
+      by : (hs : List HeldToken) → Keeps IsOnGiven (closed_or s.table.language (run_expanded f h s ts) (run_opened f h s ts)) → Keeps IsOnGiven (run_opened f h s ts)
+          → Keeps IsOnGiven (elim hs as (λ _. Result (State × List HeldToken) Cause) [ [] ↦ closed_or s.table.language (run_expanded f h s ts) (run_opened f h s ts) | name ∷ more ↦ run_opened f h s ts ])
+      by [] c o = c
+      by (name ∷ more) c o = o
+
+  line_on : (f : File) (l : FileLine) (s : State) → IsOn s → Holds (λ (ts : List Tok). Unit {0}) IsOn (line_asked f l s)
+  line_on f l s n = holds_halting f (line_of_tokens l.tokens) s (asked_directive s l.tokens) n (keeps_any (asked_directive s l.tokens))
+
   tokens_on : (f : File) (ts : List Tok) (s : State) (h : Here) → IsOn s → Holds IsOnHere IsOn (tokens_read f ts s h)
-  tokens_on f ts s h n = holds_then (holds_halting f (line_of_tokens ts) s (run_put f h s ts) n (put_on f h s ts n)) (λ t k. holds_ok k)
+  tokens_on f ts s h n = holds_then (holds_halting f (line_of_run h.waiting ts) s (run_given f h s ts) n (given_on f h s ts n)) (λ t k. holds_ok k)
 
   wait_on : (b : Bool) (x : State × Here) (r : Result (State × Here) Halt) → IsOnHere x → Holds IsOnHere IsOn r
       → Holds IsOnHere IsOn (elim b as (λ _. Result (State × Here) Halt) [ true ↦ Ok x | false ↦ r ])
@@ -69,15 +113,23 @@ module _ (before : List ℕ) where
   text_on : (f : File) (ts : List Tok) (s : State) (h : Here) → IsOn s → Holds IsOnHere IsOn (text_read f ts s h)
   text_on f [] s h n = holds_ok n
   text_on f (t ∷ ts) s h n =
-      wait_on (nat_lt 0 (open_in s.table h.deep (t ∷ ts))) (s, with_waiting (h.waiting ++ t ∷ ts) (open_in s.table h.deep (t ∷ ts)) h)
-      (tokens_read f (h.waiting ++ t ∷ ts) s h) n (tokens_on f (h.waiting ++ t ∷ ts) s h n)
+      holds_then (holds_halting f (line_of_tokens (t ∷ ts)) s (asked s.poisoned (t ∷ ts)) n (keeps_any (asked s.poisoned (t ∷ ts))))
+      (λ _ k. wait_on (nat_lt 0 (open_behind h.deep (spellings (t ∷ ts)))) (s, with_waiting (h.waiting ++ map held_source (t ∷ ts)) (open_behind h.deep (spellings (t ∷ ts))) h)
+      (tokens_read f (t ∷ ts) s h) n (tokens_on f (t ∷ ts) s h n))
 
   run_on : (f : File) (ls : List FileLine) (s : State) (h : Here) → IsOn s → Holds IsOnHere IsOn (run_read f ls s h)
   run_on f ls s h n = text_on f (run_tokens ls) s h n
 
-  waiting_on : (f : File) (ts : List Tok) (s : State) (h : Here) → IsOn s → Holds IsOnHere IsOn (waiting_read f ts s h)
-  waiting_on f [] s h n = holds_ok n
-  waiting_on f (t ∷ ts) s h n = tokens_on f (t ∷ ts) s h n
+  waiting_on : (f : File) (line : Option ℕ) (s : State) (h : Here) → IsOn s → Holds IsOnHere IsOn (released_at f line s h)
+  waiting_on f None s h n = holds_ok n
+  waiting_on f (Some line) s h n = holds_halting f line s (Err (Expand UnclosedCall)) n keeps_err
+
+  before_on : (l : FileLine) (f : File) (s : State) (h : Here) → IsOn s → Holds IsOnHere IsOn (released_for l f s h)
+  before_on l f s h n = by (ends_call l.kind s.table.language (called_name h.waiting) (operands l))
+    where
+      by : (b : Bool) → Holds IsOnHere IsOn (cond {A = Result (State × Here) Halt} b (released_at f (first_line_in h.waiting) s h) (Ok (s, h)))
+      by true = waiting_on f (first_line_in h.waiting) s h n
+      by false = holds_ok n
 
   condition_on : (kind : LineKind) (f : File) (l : FileLine) (s : State) (h : Here) → IsOn s → Keeps (IsOnAfter Bool) (condition_of kind f l s h)
   condition_on (Other Ifdef) f l s h n = keeps_after _ (λ x. keeps_ok n)
@@ -90,15 +142,29 @@ module _ (before : List ℕ) where
   either_on true s t n m = n
   either_on false s t n m = m
 
-  pragma_kept : (a b : Bool) (s t : State) (r : Result State Cause) → IsOn s → Keeps IsOn r → IsOn t → Keeps IsOn (cond a (Ok s) (cond b r (Ok t)))
-  pragma_kept true b s t r n k m = keeps_ok n
-  pragma_kept false true s t r n k m = k
-  pragma_kept false false s t r n k m = keeps_ok m
+  poison_on : (ts : List Tok) (s : State) → IsOn s → IsOn (poison_all ts s)
+  poison_on [] s n = n
+  poison_on (t ∷ ts) s n = poison_on ts (poison t.spelling s) n
+
+  poisoned_on : (ts : List Tok) (s : State) → IsOn s → Keeps IsOn (poisoned_by ts s)
+  poisoned_on ts s n = by (list_all (is_poisonable s.table.language) ts)
+    where
+      by : (b : Bool) → Keeps IsOn (cond {A = Result State Cause} b (Ok (poison_all ts s)) (Err BadPragma))
+      by true = keeps_ok (poison_on ts s n)
+      by false = keeps_err
+
+  pragma_kept : (a b c : Bool) (s t : State) (r q : Result State Cause) → IsOn s → Keeps IsOn r → Keeps IsOn q → IsOn t
+      → Keeps IsOn (cond a (Ok s) (cond b r (cond c q (Ok t))))
+  pragma_kept true b c s t r q n k i m = keeps_ok n
+  pragma_kept false true c s t r q n k i m = k
+  pragma_kept false false true s t r q n k i m = i
+  pragma_kept false false false s t r q n k i m = keeps_ok m
 
   pragma_on : (f : File) (l : FileLine) (s : State) (h : Here) → IsOn s → Keeps IsOn (after_pragma f l s h)
   pragma_on f l s h n =
-      pragma_kept (names_once (operands l)) (is_stacking s.table.language (operands l)) _ _ (restacked (operands l) s.table >>= λ t. Ok (with_table t s)) n
-      (keeps_after (restacked (operands l) s.table) (λ t. keeps_ok n)) n
+      pragma_kept (names_once (operands l)) (is_stacking s.table.language (operands l)) (names_poison s.table.language (operands l)) _ _
+      (restacked (operands l) s.table >>= λ t. Ok (with_table t s)) (poisoned_by (drop 2 (operands l)) s) n
+      (keeps_after (restacked (operands l) s.table) (λ t. keeps_ok n)) (poisoned_on (drop 2 (operands l)) s n) n
 
   changed_on : (directive : DirectiveKind) (f : File) (l : FileLine) (s : State) (h : Here) → IsOn s → Keeps IsOnHere (changed directive f l s h)
   changed_on Define f l s h n = keeps_after _ (λ x. keeps_ok n)
@@ -158,24 +224,25 @@ module _ (before : List ℕ) where
     group_on f Empty s h d n = holds_ok n
     group_on f (Run ls g) s h d n = holds_then (run_on f ls s h n) (λ r k. group_on f g r.0 r.1 d k)
     group_on f (Control l g) s h d n =
-        holds_then (holds_then (waiting_on f h.waiting s h n) (λ p k. control_on l.kind f l p.0 p.1 d k)) (λ r k. group_on f g r.0 r.1 d k)
+        holds_then (holds_then (before_on l f s h n) (λ p k. holds_then (line_on f l p.0 k) (λ _ _. control_on l.kind f l p.0 p.1 d k))) (λ r k. group_on f g r.0 r.1 d k)
     group_on f (Section bs g) s h d n = holds_then (section_on f bs s h d n) (λ r k. group_on f g r.0 r.1 d k)
 
     section_on : (f : File) (bs : Branches) (s : State) (h : Here) → IsDeeperOn f.deeper → IsOn s → Holds IsOnHere IsOn (section_read f bs s h)
     section_on f (Branch l g bs) s h d n =
-        holds_then (holds_halting f (line_of_tokens l.tokens) s (condition_of l.kind f l s h) n (condition_on l.kind f l s h n))
+        holds_then
+        (holds_then (line_on f l s n) (λ _ _. holds_halting f (line_of_tokens l.tokens) s (condition_of l.kind f l s h) n (condition_on l.kind f l s h n)))
         (λ r k. by_test r.0 (group_read f g r.1 h) (section_read f bs r.1 h) (group_on f g r.1 h d k) (section_on f bs r.1 h d k))
     section_on f (Otherwise l g e) s h d n = group_on f g s h d n
     section_on f (Close e) s h d n = holds_ok n
 
   tree_on : (f : File) (r : Result Group FileFault) (s : State) (h : Here) → IsDeeperOn f.deeper → IsOn s → Holds IsOn IsOn (tree_read f r s h)
-  tree_on f (Ok g) s h d n = holds_then (group_on f g s h d n) (λ r k. holds_then (waiting_on f r.1.waiting r.0 r.1 k) (λ q i. holds_ok i))
+  tree_on f (Ok g) s h d n = holds_then (group_on f g s h d n) (λ r k. holds_then (waiting_on f (first_line_in r.1.waiting) r.0 r.1 k) (λ q i. holds_ok i))
   tree_on f (Err fault) s h d n = holds_halting f fault.1 s (Err fault.0) n keeps_err
 
   ---- what is left of a file
 
   ending_on : (f : File) (e : Ending) (s : State) (h : Here) → IsDeeperOn f.deeper → IsOn s → Holds IsOnHere IsOn (ending_read f e s h)
-  ending_on f FileEnd s h d n = waiting_on f h.waiting s h n
+  ending_on f FileEnd s h d n = waiting_on f (first_line_in h.waiting) s h n
   ending_on f (Faulty fault) s h d n = holds_ok n
   ending_on f (AtElif l g e) s h d n = ending_on f e s h d n
   ending_on f (AtElse l g e) s h d n = ending_on f e s h d n

@@ -1,5 +1,5 @@
 -- Files of which nothing is left where the name of their guard is defined.
-use Rattle.std.proofs.Common.{◌≡◌, ◌≢◌, ℕ, ◌+◌, ◌-◌, ◌<◌, ◌≤◌, Bool, true, List, [], ◌∷◌, Some, Ok, Err, if◌then◌else◌, ap, sym, ◌∙◌, length, take, drop, option_map, slice_get, arith}
+use Rattle.std.proofs.Common.{◌≡◌, ◌≢◌, ℕ, ◌+◌, ◌-◌, ◌<◌, ◌≤◌, Bool, true, List, [], ◌∷◌, Some, Result, Ok, Err, if◌then◌else◌, ap, sym, ◌∙◌, length, take, drop, option_map, slice_get, arith}
 use Rattle.std.specs.List.{All}
 use Rattle.inc_directive.specs.declared.kinds.Role.{Role}
 use Rattle.inc_directive.specs.declared.kinds.Role.TheVariants.{TextLine, ElifGroup, EndifLine}
@@ -13,13 +13,14 @@ use Rattle.inc_pp.specs.declared.causes.Cause.TheVariants.{BadName}
 use Rattle.inc_macro.specs.Results.{◌>>=◌}
 use Rattle.inc_macro.specs.Macros.{Table, is_defined, is_identifier_kind}
 use Rattle.inc_pp.specs.HeldFiles.{HasGuard, IsGuard, IsSkipped, IsPlanned}
-use Rattle.inc_pp.specs.Sections.{condition_of, operands}
+use Rattle.inc_pp.specs.Sections.{condition_of, is_chosen, operands}
 use Rattle.inc_pp.specs.Steps.{name_defined, opposite}
 use Rattle.inc_pp.proofs.TakenSteps.{with_all}
 use Rattle.inc_pp.specs.Tasks.{halting}
 use Rattle.inc_pp.proofs.BlankRuns.{blank-leads}
 use Rattle.inc_pp.proofs.Choosing.{role_at, section-passed}
 use Rattle.inc_pp.proofs.LineSteps.{AreText, IsNoText, element, directive_at, step-done}
+use Rattle.inc_pp.proofs.PoisonSteps.{asked-none, read-on}
 use Rattle.inc_pp.proofs.StopSteps.{in_state, kind-read}
 use Rattle.inc_pp.proofs.TakenSteps.{not-defined-is, third-name}
 
@@ -60,9 +61,10 @@ guard_at ps list parts planned open' low text stops blank tests close link low' 
 
 -- the name is defined
 pub guard_passes : (ps : List FilePart) (i : ℕ) (g : IsGuard ps i) → (table : Table) → name_defined table (operands g.line) ≡ Ok true → IsSkipped table ps
-guard_passes ps i g table defined = λ f s h same.
+guard_passes ps i g table defined = λ f s h same none.
     g.passed f s h
-    (ap (λ k. halting f (line_of_tokens g.line.tokens) s (condition_of k f g.line s h)) g.tests
+    (read-on f g.line s (is_chosen f g.line s h) (asked-none f g.line s none)
+    ∙ ap (λ k. halting f (line_of_tokens g.line.tokens) s (condition_of k f g.line s h)) g.tests
     ∙ ap (λ r. halting f (line_of_tokens g.line.tokens) s r) (not-defined-is g.line s)
     ∙ ap (λ t. halting f (line_of_tokens g.line.tokens) s (in_state s (with_all s.meter (opposite (name_defined t (operands g.line)))))) same
     ∙ ap (λ r. halting f (line_of_tokens g.line.tokens) s (in_state s (with_all s.meter (opposite r)))) defined)

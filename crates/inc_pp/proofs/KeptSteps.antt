@@ -14,6 +14,11 @@ keeps_ok h = record { value = h }
 pub keeps_err : {A E : Type 0} {Q : A → Type 0} {e : E} → Keeps Q (Err e)
 keeps_err = record { value = tt }
 
+-- nothing is asked of the value
+pub keeps_any : {A E : Type 0} (r : Result A E) → Keeps (λ (x : A). Unit {0}) r
+keeps_any (Ok x) = record { value = tt }
+keeps_any (Err e) = record { value = tt }
+
 pub keeps_after : {A B E : Type 0} {R : B → Type 0} (r : Result A E) {k : A → Result B E} → ((x : A) → Keeps R (k x)) → Keeps R (r >>= k)
 keeps_after (Ok x) more = more x
 keeps_after (Err e) more = keeps_err

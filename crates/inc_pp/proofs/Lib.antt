@@ -5,11 +5,11 @@ pub mod DecimalSteps
 pub mod LabelParts
 pub mod Prints
 pub mod StopSteps
+pub mod PoisonSteps
 pub mod OperatorSteps
 pub mod RunSteps
 pub mod TextRuns
 pub mod WaitingParts
-pub mod CallScans
 pub mod TakenSteps
 pub mod Walking
 pub mod LineSteps

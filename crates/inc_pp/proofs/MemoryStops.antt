@@ -1,6 +1,7 @@
 -- No preprocessing stops because memory ran out: the definitions know no such thing.
-use Rattle.std.proofs.Common.{ℕ, zero, suc, ◌+◌, Bool, true, false, List, [], ◌∷◌, ◌++◌, Option, Some, None, Result, Ok, Err, drop, length, nat_le, nat_lt}
-use Rattle.std.specs.Prelude.{◌≢◌, IfOk, IfErr, IfSome, ok_or, option_map, if◌then◌else◌, bytes_eq, codes}
+use Rattle.std.proofs.Common.{ℕ, zero, suc, ◌+◌, Bool, true, false, List, [], ◌∷◌, ◌++◌, Option, Some, None, Result, Ok, Err, drop, length, map, nat_le, nat_lt}
+use Rattle.std.specs.List.{list_all, list_any}
+use Rattle.std.specs.Prelude.{◌≢◌, ◌&&◌, ◌||◌, IfOk, IfErr, IfSome, ok_or, option_map, if◌then◌else◌, bytes_eq, codes}
 use Rattle.inc_text.specs.PhaseText.{Cell, is_too_long, phase_text}
 use Rattle.inc_token.specs.declared.kinds.IncludeName.{IncludeName}
 use Rattle.inc_text.specs.declared.languages.Language.{Language}
@@ -27,8 +28,11 @@ use Rattle.inc_macro.specs.Macros.{Table, define, define_word, first_tokens, is_
 use Rattle.inc_macro.specs.Results.{◌>>=◌}
 use Rattle.inc_macro.proofs.MemoryFaults.{define_has, define_word_has, undef_has}
 use Rattle.inc_expand.specs.declared.places.Mode.TheVariants.{Plain}
-use Rattle.inc_expand.specs.Expansion.{Item, Place, expansion}
-use Rattle.inc_expand.proofs.MemoryFaults.{expansion_has}
+use Rattle.inc_expand.specs.Expansion.{Item, Place, Surroundings, expansion}
+use Rattle.inc_expand.specs.Openings.{Held, held_source, opening}
+use Rattle.inc_expand.proofs.MemoryFaults.{expansion_has, opening_has}
+use Rattle.inc_expand.specs.declared.faults.ExpandFault.TheVariants.{UnclosedCall}
+use Rattle.inc_text.specs.Languages.{is_gnu}
 use Rattle.inc_cond.specs.Conditions.{condition}
 use Rattle.inc_cond.specs.Headers.{is_str_kind}
 use Rattle.inc_cond.proofs.MemoryFaults.{condition_has}
@@ -36,14 +40,15 @@ use Rattle.inc_pp.specs.declared.causes.Cause.{Cause}
 use Rattle.inc_pp.specs.declared.causes.Cause.TheVariants as cause
 use Rattle.inc_pp.specs.declared.settings.Missing.{Missing}
 use Rattle.inc_pp.specs.declared.settings.Missing.TheVariants as missing
-use Rattle.inc_pp.specs.Directives.{after_pragma, changed, control_of, counted, directive_read, line_operands, renumbered, with_table}
+use Rattle.inc_pp.specs.Directives.{after_pragma, changed, control_of, counted, directive_read, ends_call, line_operands, released_for, renumbered, with_table}
 use Rattle.inc_pp.specs.Files.{FileFault, lines_or_fault, of_balance, text_tree, tree_of, tree_of_lines}
 use Rattle.inc_pp.specs.Includes.{found_from, header_in, header_of, include_target, included, is_done, led_to, most_reads, not_found, wanted}
 use Rattle.inc_pp.specs.MemoryCauses.{IsNotMemory}
-use Rattle.inc_pp.specs.Pragmas.{Laid, after_literal, after_name, after_open, before, is_operator, laid, plain, pragma_line, pragma_text, pragma_tokens, tokens_or_bad, where_fits, is_stacking, names_once, restacked, stacked, stacked_name}
+use Rattle.inc_pp.specs.Pragmas.{Laid, after_literal, after_name, after_open, before, is_operator, laid, line_behind, plain, pragma_line, pragma_text, pragma_tokens, tokens_or_bad, where_fits, is_stacking, names_once, restacked, stacked, stacked_name}
 use Rattle.inc_pp.specs.Preprocessing.{group_read, section_read, tree_read, file_read, reading, most_depth, outcome_of, preprocessing, with_read, named_settings, source_read}
-use Rattle.inc_pp.specs.OpenCalls.{open_in}
-use Rattle.inc_pp.specs.Runs.{expanded, marks_in, released, run_put, run_read, text_read, tokens_read, waiting_read, with_waiting}
+use Rattle.inc_pp.specs.OpenCalls.{called_name, first_line_in, open_behind, spellings}
+use Rattle.inc_pp.specs.Poison.{asked, asked_directive, is_poisonable, is_poisoned, line_asked, names_poison, poison_all, poisoned_by, poisons}
+use Rattle.inc_pp.specs.Runs.{closed_or, expanded, is_unclosed, line_of_run, marks_in, released, released_at, run_expanded, run_given, run_opened, run_read, text_read, tokens_read, with_waiting}
 use Rattle.inc_pp.specs.Sections.{condition_of, first_name, if_defined, if_not_defined, if_true, is_taken, operands}
 use Rattle.inc_pp.specs.Settings.{Settings}
 use Rattle.inc_pp.specs.Tasks.{Task, State, Entry, Here, Halt, Deeper, File, begun, caused, halting, layout_in, place_of, search_of, source_at, start}
@@ -119,7 +124,7 @@ if_operated true ts = tt
 if_operated false ts = tt
 
 bad_has : (language : Language) (r : Result (List TokenLine) LexFault) → Has (tokens_or_bad language r)
-bad_has language (Ok ls) = if_operated (is_stacking language (drop 2 (first_tokens ls))) (first_tokens ls)
+bad_has language (Ok ls) = if_operated (is_stacking language (drop 2 (first_tokens ls)) || names_poison language (drop 2 (first_tokens ls))) (first_tokens ls)
 bad_has language (Err fault) = tt
 
 if_long : (b : Bool) (r : Result (List Tok) Cause) → Has r → Has (if b then Err cause.BadPragma else r)
@@ -146,9 +151,9 @@ mutual
   laid_has : (language : Language) (marks : Option Place) (last : Option ℕ) (is : List Item) → Has (laid language marks last is)
   laid_has language marks last [] = tt
   laid_has language marks last (i ∷ is) =
-      if_laid (is_operator language i) (after_name language marks is) (before (plain language marks last i) (laid language marks (Some i.line) is))
+      if_laid (is_operator language i) (after_name language marks is) (before (plain language marks last i) (laid language marks (line_behind language i) is))
       (after_name_has language marks is)
-      (before_has (plain language marks last i) (laid language marks (Some i.line) is) (laid_has language marks (Some i.line) is))
+      (before_has (plain language marks last i) (laid language marks (line_behind language i) is) (laid_has language marks (line_behind language i) is))
 
   after_name_has : (language : Language) (marks : Option Place) (is : List Item) → Has (after_name language marks is)
   after_name_has language marks [] = tt
@@ -165,14 +170,53 @@ mutual
       fits_has (bytes_eq i.spelling (codes ")")) _ (then_has (pragma_tokens language literal) _ (pragma_has language literal)
       (λ ts. before_has (pragma_line language marks i.line ts) (laid language marks None is) (laid_has language marks None is)))
 
-put_has : (f : File) (h : Here) (s : State) (ts : List Tok) → Has (run_put f h s ts)
+if_asked : (b : Bool) (ts : List Tok) → Has (if b then Err cause.Poisoned else Ok ts)
+if_asked true ts = tt
+if_asked false ts = tt
+
+asked_has : (poisoned : List ℕ → Bool) (ts : List Tok) → Has (asked poisoned ts)
+asked_has poisoned ts = if_asked (list_any (is_poisoned poisoned) ts) ts
+
+if_named : (b : Bool) (ts : List Tok) (r : Result (List Tok) Cause) → Has r → Has (if b then Ok ts else r)
+if_named true ts r h = tt
+if_named false ts r h = h
+
+line_has : (f : File) (l : FileLine) (s : State) → Halts (line_asked f l s)
+line_has f l s =
+    halting_has f (line_of_tokens l.tokens) s (asked_directive s l.tokens)
+    (if_named (poisons s.table.language (drop 1 l.tokens)) l.tokens (asked s.poisoned l.tokens) (asked_has s.poisoned l.tokens))
+
+put_has : (f : File) (h : Here) (s : State) (ts : List Tok) → Has (run_expanded f h s ts)
 put_has f h s ts =
     then_has (expanded f h s ts) _ (expanded_has f h s ts) (λ r.
     then_has (laid s.table.language (marks_in f h) None r.0) _ (laid_has s.table.language (marks_in f h) None r.0) (λ l. tt))
 
+opened_has : (f : File) (h : Here) (s : State) (ts : List Tok) → Has (run_opened f h s ts)
+opened_has f h s ts =
+    let around : Surroundings = record { table = s.table; mode = Plain; place = place_of f h } in
+    then_has (caused cause.Expand (opening around s.meter h.waiting ts)) _ (caused_has cause.Expand (opening around s.meter h.waiting ts) (opening_has around s.meter h.waiting ts)) (λ r.
+    then_has (laid s.table.language (marks_in f h) None r.0) _ (laid_has s.table.language (marks_in f h) None r.0) (λ l. tt))
+
+closed_has : (language : Language) (r : Result State Cause) (opened : Result (State × List Held) Cause) → Has r → Has opened → Has (closed_or language r opened)
+closed_has language (Ok t) opened h k = tt
+closed_has language (Err c) opened h k = by (is_gnu language && is_unclosed c)
+  where
+    by : (b : Bool) → Has (if b then opened else Err c)
+    by true = k
+    by false = h
+
+given_has : (f : File) (h : Here) (s : State) (ts : List Tok) → Has (run_given f h s ts)
+given_has f h s ts =
+    by h.waiting (closed_has s.table.language (run_expanded f h s ts) (run_opened f h s ts) (put_has f h s ts) (opened_has f h s ts)) (opened_has f h s ts)
+  where
+    by : (hs : List Held) → Has (closed_or s.table.language (run_expanded f h s ts) (run_opened f h s ts)) → Has (run_opened f h s ts)
+        → Has (elim hs as (λ _. Result (State × List Held) Cause) [ [] ↦ closed_or s.table.language (run_expanded f h s ts) (run_opened f h s ts) | name ∷ more ↦ run_opened f h s ts ])
+    by [] c o = c
+    by (name ∷ more) c o = o
+
 tokens_has : (f : File) (ts : List Tok) (s : State) (h : Here) → Halts (tokens_read f ts s h)
 tokens_has f ts s h =
-    then_halts (halting f (line_of_tokens ts) s (run_put f h s ts)) _ (halting_has f (line_of_tokens ts) s (run_put f h s ts) (put_has f h s ts)) (λ t. tt)
+    then_halts (halting f (line_of_run h.waiting ts) s (run_given f h s ts)) _ (halting_has f (line_of_run h.waiting ts) s (run_given f h s ts) (given_has f h s ts)) (λ t. tt)
 
 wait_has : (b : Bool) (x : State × Here) (r : Result (State × Here) Halt) → Halts r → Halts (elim b as (λ _. Result (State × Here) Halt) [ true ↦ Ok x | false ↦ r ])
 wait_has true x r h = tt
@@ -181,15 +225,23 @@ wait_has false x r h = h
 run_text_has : (f : File) (ts : List Tok) (s : State) (h : Here) → Halts (text_read f ts s h)
 run_text_has f [] s h = tt
 run_text_has f (t ∷ ts) s h =
-    wait_has (nat_lt 0 (open_in s.table h.deep (t ∷ ts))) (s, with_waiting (h.waiting ++ t ∷ ts) (open_in s.table h.deep (t ∷ ts)) h)
-    (tokens_read f (h.waiting ++ t ∷ ts) s h) (tokens_has f (h.waiting ++ t ∷ ts) s h)
+    then_halts (halting f (line_of_tokens (t ∷ ts)) s (asked s.poisoned (t ∷ ts))) _ (halting_has f (line_of_tokens (t ∷ ts)) s (asked s.poisoned (t ∷ ts)) (asked_has s.poisoned (t ∷ ts)))
+    (λ _. wait_has (nat_lt 0 (open_behind h.deep (spellings (t ∷ ts)))) (s, with_waiting (h.waiting ++ map held_source (t ∷ ts)) (open_behind h.deep (spellings (t ∷ ts))) h)
+    (tokens_read f (t ∷ ts) s h) (tokens_has f (t ∷ ts) s h))
 
 run_has : (f : File) (ls : List FileLine) (s : State) (h : Here) → Halts (run_read f ls s h)
 run_has f ls s h = run_text_has f (run_tokens ls) s h
 
-waiting_has : (f : File) (ts : List Tok) (s : State) (h : Here) → Halts (waiting_read f ts s h)
-waiting_has f [] s h = tt
-waiting_has f (t ∷ ts) s h = tokens_has f (t ∷ ts) s h
+waiting_has : (f : File) (line : Option ℕ) (s : State) (h : Here) → Halts (released_at f line s h)
+waiting_has f None s h = tt
+waiting_has f (Some line) s h = λ e. cc
+
+if_ends : (b : Bool) (s : State) (h : Here) (r : Result (State × Here) Halt) → Halts r → Halts (if b then r else Ok (s, h))
+if_ends true s h r k = k
+if_ends false s h r k = tt
+
+for_has : (l : FileLine) (f : File) (s : State) (h : Here) → Halts (released_for l f s h)
+for_has l f s h = if_ends (ends_call l.kind s.table.language (called_name h.waiting) (operands l)) s h (released f s h) (waiting_has f (first_line_in h.waiting) s h)
 
 if_name : (b : Bool) (text : List ℕ) → Has (if b then Ok text else Err cause.BadName)
 if_name true text = tt
@@ -219,7 +271,9 @@ condition_of_has (Other Elifndef) f l s h = not_defined_has l s
 condition_of_has kind f l s h = true_has f l s h
 
 taken_has : (f : File) (l : FileLine) (s : State) (h : Here) → Halts (is_taken f l s h)
-taken_has f l s h = halting_has f (line_of_tokens l.tokens) s (condition_of l.kind f l s h) (condition_of_has l.kind f l s h)
+taken_has f l s h =
+    then_halts (line_asked f l s) _ (line_has f l s)
+    (λ _. halting_has f (line_of_tokens l.tokens) s (condition_of l.kind f l s h) (condition_of_has l.kind f l s h))
 
 ---- directives
 
@@ -227,15 +281,22 @@ restacked_has : (ts : List Tok) (table : Table) → Has (restacked ts table)
 restacked_has [] table = tt
 restacked_has (t ∷ ts) table = or_has (option_map (λ name. stacked t name table) (stacked_name ts)) cause.BadPragma tt
 
-if_stacked : (a b : Bool) (s t : State) (r : Result State Cause) → Has r → Has (if a then Ok s else if b then r else Ok t)
-if_stacked true b s t r h = tt
-if_stacked false true s t r h = h
-if_stacked false false s t r h = tt
+if_poisoned : (b : Bool) (s : State) → Has (if b then Ok s else Err cause.BadPragma)
+if_poisoned true s = tt
+if_poisoned false s = tt
+
+if_stacked : (a b c : Bool) (s t : State) (r q : Result State Cause) → Has r → Has q → Has (if a then Ok s else if b then r else if c then q else Ok t)
+if_stacked true b c s t r q h k = tt
+if_stacked false true c s t r q h k = h
+if_stacked false false true s t r q h k = k
+if_stacked false false false s t r q h k = tt
 
 pragma_line_has : (f : File) (l : FileLine) (s : State) (h : Here) → Has (after_pragma f l s h)
 pragma_line_has f l s h =
-    if_stacked (names_once (operands l)) (is_stacking s.table.language (operands l)) _ _ (restacked (operands l) s.table >>= λ t. Ok (with_table t s))
+    if_stacked (names_once (operands l)) (is_stacking s.table.language (operands l)) (names_poison s.table.language (operands l)) _ _
+    (restacked (operands l) s.table >>= λ t. Ok (with_table t s)) (poisoned_by (drop 2 (operands l)) s)
     (then_has (restacked (operands l) s.table) _ (restacked_has (operands l) s.table) (λ t. tt))
+    (if_poisoned (list_all (is_poisonable s.table.language) (drop 2 (operands l))) (poison_all (drop 2 (operands l)) s))
 
 changed_has : (directive : DirectiveKind) (f : File) (l : FileLine) (s : State) (h : Here) → Has (changed directive f l s h)
 changed_has Define f l s h =
@@ -321,7 +382,8 @@ mutual
   group_has f (Run ls g) s h d = then_halts (run_read f ls s h) _ (run_has f ls s h) (λ r. group_has f g r.0 r.1 d)
   group_has f (Control l g) s h d =
       then_halts (directive_read f l s h) _
-      (then_halts (released f s h) _ (waiting_has f h.waiting s h) (λ p. control_has l.kind f l p.0 p.1 d)) (λ r. group_has f g r.0 r.1 d)
+      (then_halts (released_for l f s h) _ (for_has l f s h) (λ p.
+      then_halts (line_asked f l p.0) _ (line_has f l p.0) (λ _. control_has l.kind f l p.0 p.1 d))) (λ r. group_has f g r.0 r.1 d)
   group_has f (Section bs g) s h d = then_halts (section_read f bs s h) _ (section_has f bs s h d) (λ r. group_has f g r.0 r.1 d)
 
   section_has : (f : File) (bs : Branches) (s : State) (h : Here) → DeeperHas f.deeper → Halts (section_read f bs s h)
@@ -333,7 +395,7 @@ mutual
 
 tree_has : (f : File) (r : Result Group FileFault) (s : State) (h : Here) → DeeperHas f.deeper → FileHas r → Halts (tree_read f r s h)
 tree_has f (Ok g) s h d k =
-    then_halts (group_read f g s h) _ (group_has f g s h d) (λ r. then_halts (released f r.0 r.1) _ (waiting_has f r.1.waiting r.0 r.1) (λ q. tt))
+    then_halts (group_read f g s h) _ (group_has f g s h d) (λ r. then_halts (released f r.0 r.1) _ (waiting_has f (first_line_in r.1.waiting) r.0 r.1) (λ q. tt))
 tree_has f (Err fault) s h d k = k
 
 file_has : (t : Task) (deeper : Deeper) (to : Entry) (s : State) → DeeperHas deeper → Halts (file_read t deeper to s)

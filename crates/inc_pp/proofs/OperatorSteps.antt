@@ -1,6 +1,7 @@
 -- Operators among expanded tokens that are taken one by one: what all give stays.
 use Rattle.std.proofs.Common.{◌≡◌, refl, ap, sym, subst, ◌∙◌, ℕ, suc, ◌+◌, ◌<◌, Bool, true, false, List, [], ◌∷◌, ◌++◌, Option, Some, None, Result, Ok, Err, arith, get_or, length, map, take, append_assoc}
-use Rattle.std.specs.Prelude.{◌&&◌, ◌↔◌, if◌then◌else◌, codes, bytes_eq, is_some, option_map}
+use Rattle.std.specs.List.{list_any}
+use Rattle.std.specs.Prelude.{◌==◌, ◌||◌, ◌&&◌, ◌↔◌, if◌then◌else◌, codes, bytes_eq, is_some, option_map}
 use Rattle.std.proofs.Math.Seq.{take-suc}
 use Rattle.std.proofs.lemmas.List.{append-nil, map-append}
 use Rattle.inc_text.specs.declared.phases.TextFault.{TextFault}
@@ -13,13 +14,14 @@ use Rattle.inc_token.specs.Views.{seen}
 use Rattle.inc_macro.specs.Macros.{is_identifier_kind}
 use Rattle.inc_macro.specs.Results.{◌>>=◌}
 use Rattle.inc_expand.specs.Expansion.{Item, Meter, Place}
+use Rattle.inc_expand.specs.Openings.{Held}
 use Rattle.inc_expand.specs.Sinks.{Taken, item_of_source}
 use Rattle.inc_pp.specs.declared.causes.Cause.{Cause}
 use Rattle.inc_pp.specs.declared.causes.Cause.TheVariants.{BadPragma}
 use Rattle.inc_pp.specs.declared.operators.Operators.{Operators}
 use Rattle.inc_pp.specs.Operators.{Grows, marks_in, outcome, outcome_behind, takes_operand, tokens_in_text}
 use Rattle.inc_text.specs.Languages.{is_gnu}
-use Rattle.inc_pp.specs.Pragmas.{Laid, after_name, before, laid, plain, pragma_text, pragma_tokens, tokens_or_bad}
+use Rattle.inc_pp.specs.Pragmas.{Laid, after_name, before, is_other_kind, laid, line_behind, plain, pragma_text, pragma_tokens, tokens_or_bad}
 use Rattle.inc_pp.specs.Tasks.{OutToken, line_tokens}
 
 ---- a pragma's text
@@ -117,6 +119,39 @@ module _ (language : Language) (marks : Option Place) (out new : List OutToken) 
   pub operated-bad : (cause : Cause) → before (record { tokens = out; once = false }) (laid language marks None items) ≡ Err cause → paid language marks r ≡ Err cause
   operated-bad cause e = ap (paid language marks) is ∙ ap (with_left left) (before_err (record { tokens = out; once = false }) cause (laid language marks None items) e)
 
+-- what comes before an open call gives, with its tokens put out, and that call
+abbrev pub paid_open : Language → (marks : Option Place) → Result (List Item × List Held × Meter) Cause → Result (Laid × List Held × Meter) Cause
+paid_open language marks r = r >>= λ x. laid language marks None x.0 >>= λ l. Ok (l, x.1, x.2)
+
+abbrev pub with_call : List Held → Meter → Result Laid Cause → Result (Laid × List Held × Meter) Cause
+with_call call left r = r >>= λ l. Ok (l, call, left)
+
+-- an expansion up to an open call that has no fault, and what its tokens give
+pub open-done : (language : Language) (marks : Option Place) (items : List Item) (call : List Held) (left : Meter) (l : Laid) (r : Result (List Item × List Held × Meter) Cause) → r ≡ Ok (items, call, left)
+    → laid language marks None items ≡ Ok l → paid_open language marks r ≡ Ok (l, call, left)
+open-done language marks items call left l r is given = ap (paid_open language marks) is ∙ ap (with_call call left) given
+
+pub open-bad : (language : Language) (marks : Option Place) (items : List Item) (call : List Held) (left : Meter) (cause : Cause) (r : Result (List Item × List Held × Meter) Cause) → r ≡ Ok (items, call, left)
+    → laid language marks None items ≡ Err cause → paid_open language marks r ≡ Err cause
+open-bad language marks items call left cause r is given = ap (paid_open language marks) is ∙ ap (with_call call left) given
+
+-- what all items give
+pub items-done : (language : Language) (marks : Option Place) (o : Operators) (out new : List OutToken) (is : List Item) (once : Bool)
+    → outcome o is ≡ before (record { tokens = out; once = false }) (laid language marks None is) → outcome o is ≡ Ok (record { tokens = new; once = once })
+    → (more : List OutToken) × (new ≡ out ++ more) × (laid language marks None is ≡ Ok (record { tokens = more; once = once }))
+items-done language marks o out new is once begun e = before_ok out new once (laid language marks None is) (sym begun ∙ e)
+
+pub items-bad : (language : Language) (marks : Option Place) (o : Operators) (out : List OutToken) (is : List Item) (cause : Cause)
+    → outcome o is ≡ before (record { tokens = out; once = false }) (laid language marks None is) → outcome o is ≡ Err cause → laid language marks None is ≡ Err cause
+items-bad language marks o out is cause begun e = before_err (record { tokens = out; once = false }) cause (laid language marks None is) (sym begun ∙ e)
+
+-- more was put out, and then more
+pub grows-both : (a b c : List OutToken) → Grows a b → Grows b c → Grows a c
+grows-both a b c p q = (p.0 ++ q.0, q.1 ∙ ap (λ ts. ts ++ q.0) p.1 ∙ append_assoc a p.0 q.0)
+
+pub grows-none : (a : List OutToken) → Grows a a
+grows-none a = ([], sym (append-nil a))
+
 -- what all give, before any of them, where lines are marked so
 pub begun-operators : (language : Language) (marks : Option Place) (o : Operators) (out : List OutToken)
     → ((is : List Item) → outcome o is ≡ before (record { tokens = out; once = false }) (laid language marks None is)) → marks_in o ≡ marks → o.output ≡ out
@@ -145,7 +180,8 @@ pub laid-plain : (language : Language) → is_gnu language ≡ false → (last :
 laid-plain language other last [] = refl
 laid-plain language other last (i ∷ is) =
     ap (λ b. if b && (is_identifier_kind i.kind && bytes_eq i.spelling (codes "_Pragma")) then after_name language None is
-    else before (plain language None last i) (laid language None (Some i.line) is)) other
+    else before (plain language None last i) (laid language None (line_behind language i) is)) other
+    ∙ ap (λ b. before (plain language None last i) (laid language None (if b && (is_other_kind i.kind && list_any (λ b. (b == 39) || (b == 34)) i.spelling) then None else Some i.line) is)) other
     ∙ ap (before (plain language None last i)) (laid-plain language other (Some i.line) is)
     ∙ ap (λ (l : Laid). before l (Ok (record { tokens = line_tokens false is; once = false }))) (plain_is language last i)
 

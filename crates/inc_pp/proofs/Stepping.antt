@@ -11,9 +11,9 @@ use Rattle.inc_cond.specs.Headers.{HeaderSearch}
 use Rattle.inc_pp.specs.declared.faults.Break.{Break}
 use Rattle.inc_pp.specs.declared.faults.Break.TheVariants.{Stop, Unread, NoMemory}
 use Rattle.inc_pp.specs.Choices.{StopsAt, LeadsTo}
-use Rattle.inc_pp.specs.Directives.{control_read}
+use Rattle.inc_pp.specs.Directives.{control_read, released_for}
 use Rattle.inc_pp.specs.Includes.{included}
-use Rattle.inc_pp.specs.Runs.{released, run_read}
+use Rattle.inc_pp.specs.Runs.{run_read}
 use Rattle.inc_pp.specs.Settings.{Settings}
 use Rattle.inc_pp.specs.Stops.{IfStop, halt_at, IsSearched, IsUnder, IsIn}
 use Rattle.inc_pp.specs.Tasks.{File, State, Entry, Here, Halt, Deeper}
@@ -73,30 +73,31 @@ module _ (ps : List FilePart) (part : ℕ) (low : part < length ps) where
     abbrev onward : File → FileLine → Result (State × Here) Halt → Result (State × Here) Halt
     onward f l r = (r >>= λ p. control_read f l p.0 p.1) >>= λ x. lines_read f (lines_from (part + 1) ps) x.0 x.1
 
-    pub control-leads : (f : File) (s m t : State) (h p k : Here) (found : Option Entry) → released f s h ≡ Ok (m, p)
+    pub control-leads : (f : File) (s m t : State) (h p k : Here) (found : Option Entry) → ((l : FileLine) → slice_get ps part ≡ Some (DirectivePart l) → released_for l f s h ≡ Ok (m, p))
         → ((l : FileLine) → slice_get ps part ≡ Some (DirectivePart l) → control_read f l m p ≡ included f.deeper found t k)
         → LeadsTo ps f part s h found (part + 1) t k
     control-leads f s m t h p k found free is =
         let e = control_line in
-        step-control f ps part (part + 1) e.0 e.1 e.2 refl s h ∙ ap (onward f e.0) free
+        step-control f ps part (part + 1) e.0 e.1 e.2 refl s h ∙ ap (onward f e.0) (free e.0 e.1)
         ∙ ap (λ r. r >>= λ x. lines_read f (lines_from (part + 1) ps) x.0 x.1) (is e.0 e.1)
 
     -- tokens that wait have a fault
     pub release-stop : (layout : Layout) (settings : Settings) (from : Found) (nests : Bool) (s t : State) (h : Here) (fault : Break)
-        → IfStop fault (λ at cause. (t ≡ s) × ((f : File) → IsUnder settings f → f.index ≡ from.file → released f s h ≡ Err (halt_at f s at cause)))
+        → IfStop fault (λ at cause. (t ≡ s) × ((f : File) (l : FileLine) → IsUnder settings f → f.index ≡ from.file →
+        slice_get ps part ≡ Some (DirectivePart l) → released_for l f s h ≡ Err (halt_at f s at cause)))
         → IfStop fault (λ at cause. (f : File) → IsIn layout settings from nests f → StopsAt f (lines_read f (lines_from part ps) s h) at cause t)
     release-stop layout settings from nests s t h (Stop at cause) halts =
         λ f in_file.
         let e = control_line in (
           s,
           record { output = ap (λ x. x.output) (sym halts.0); reads = ap (λ x. x.reads) (sym halts.0) },
-          step-control f ps part (part + 1) e.0 e.1 e.2 refl s h ∙ ap (onward f e.0) (halts.1 f in_file.under in_file.at),
+          step-control f ps part (part + 1) e.0 e.1 e.2 refl s h ∙ ap (onward f e.0) (halts.1 f e.0 in_file.under in_file.at e.1),
         )
     release-stop layout settings from nests s t h (Unread fault) halts = halts
     release-stop layout settings from nests s t h NoMemory halts = tt
 
     pub control-stop : (layout : Layout) (settings : Settings) (from : Found) (nests : Bool) (s m t : State) (h p : Here) (fault : Break)
-        → ((f : File) → IsIn layout settings from nests f → released f s h ≡ Ok (m, p))
+        → ((f : File) (l : FileLine) → IsIn layout settings from nests f → slice_get ps part ≡ Some (DirectivePart l) → released_for l f s h ≡ Ok (m, p))
         → IfStop fault (λ at cause. (t.output ≡ m.output) × (t.reads ≡ m.reads)
         × ((f : File) (l : FileLine) → IsIn layout settings from nests f → slice_get ps part ≡ Some (DirectivePart l) → control_read f l m p ≡ Err (halt_at f m at cause)))
         → IfStop fault (λ at cause. (f : File) → IsIn layout settings from nests f → StopsAt f (lines_read f (lines_from part ps) s h) at cause t)
@@ -105,7 +106,7 @@ module _ (ps : List FilePart) (part : ℕ) (low : part < length ps) where
         let e = control_line in (
           m,
           record { output = sym halts.0; reads = sym halts.1 },
-          step-control f ps part (part + 1) e.0 e.1 e.2 refl s h ∙ ap (onward f e.0) (free f in_file)
+          step-control f ps part (part + 1) e.0 e.1 e.2 refl s h ∙ ap (onward f e.0) (free f e.0 in_file e.1)
               ∙ ap (λ r. r >>= λ x. lines_read f (lines_from (part + 1) ps) x.0 x.1) (halts.2 f e.0 in_file e.1),
         )
     control-stop layout settings from nests s m t h p (Unread fault) free halts = halts

@@ -18,7 +18,7 @@ use Rattle.inc_pp.specs.declared.conditions.Test.TheVariants.{Defined, Undefined
 use Rattle.inc_pp.specs.declared.causes.Cause.{Cause}
 use Rattle.inc_pp.specs.declared.causes.Cause.TheVariants.{Condition}
 use Rattle.inc_pp.specs.Runs.{with_meter}
-use Rattle.inc_pp.specs.Sections.{operands, first_name, is_true, if_defined, if_not_defined, if_true, condition_of, is_taken}
+use Rattle.inc_pp.specs.Sections.{operands, first_name, is_true, if_defined, if_not_defined, if_true, condition_of, is_chosen}
 use Rattle.inc_pp.specs.Settings.{Settings}
 use Rattle.inc_pp.specs.Steps.{place_under, name_defined, opposite, test_of, value_true}
 use Rattle.inc_pp.specs.Stops.{IsSearched, halt_at}
@@ -84,10 +84,10 @@ module _ (f : File) (l : FileLine) (s : State) (h : Here) (settings : Settings) 
       ∙ ap (λ (x : HeaderSearch). in_state s (taken_by (test_of kind) x (place_under settings h) s.table s.meter (operands l))) u.looks
       ∙ ap (λ k. in_state s (taken_by k search (place_under settings h) s.table s.meter (operands l))) (sym asks)
 
-  pub taken-done : (b : Bool) (meter : Meter) → taken_by t search (place_under settings h) s.table s.meter (operands l) ≡ Ok (b, meter) → is_taken f l s h ≡ Ok (b, with_meter meter s)
+  pub taken-done : (b : Bool) (meter : Meter) → taken_by t search (place_under settings h) s.table s.meter (operands l) ≡ Ok (b, meter) → is_chosen f l s h ≡ Ok (b, with_meter meter s)
   taken-done b meter e = ap (λ x. halting f (line_of_tokens l.tokens) s x) (taken-is ∙ ap (in_state s) e)
 
-  pub taken-stop : (line : ℕ) (c : Cause) → line ≡ line_of_tokens l.tokens → taken_by t search (place_under settings h) s.table s.meter (operands l) ≡ Err c → is_taken f l s h ≡ Err (halt_at f s line c)
+  pub taken-stop : (line : ℕ) (c : Cause) → line ≡ line_of_tokens l.tokens → taken_by t search (place_under settings h) s.table s.meter (operands l) ≡ Err c → is_chosen f l s h ≡ Err (halt_at f s line c)
   taken-stop line c where_is e =
       ap (λ x. halting f (line_of_tokens l.tokens) s x) (taken-is ∙ ap (in_state s) e)
       ∙ ap (λ n. Err (halt_at f s n c)) (sym where_is)

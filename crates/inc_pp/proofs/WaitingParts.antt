@@ -1,8 +1,8 @@
 -- Tokens whose spellings lie one after the other in one list.
-use Rattle.std.proofs.Common.{◌≡◌, ℕ, suc, ◌+◌, ◌<◌, ◌-◌, ◌≤◌, List, [], ◌∷◌, ◌++◌, length, get_or, take, drop, refl, subst, ap, ◌∙◌, arith}
+use Rattle.std.proofs.Common.{◌≡◌, ℕ, suc, ◌+◌, ◌<◌, ◌-◌, ◌≤◌, List, [], ◌∷◌, ◌++◌, length, get_or, slice_get, Some, take, drop, refl, subst, ap, ◌∙◌, arith}
 use Rattle.std.proofs.lemmas.List.{drop-append-le, take-append-le, take_all, length-append, length-drop}
 use Rattle.std.proofs.Math.Seq.{drop-append_seam, drop-cons}
-use Rattle.inc_token.specs.TokenLines.{Tok}
+use Rattle.inc_expand.specs.Openings.{Held}
 use Rattle.inc_pp.specs.declared.waiting.Part.{Part}
 use Rattle.inc_pp.specs.Waiting.{token_of, tokens_in, AreEnds}
 
@@ -32,7 +32,7 @@ token_pushed bytes name begin (q ∷ qs) p ends end =
     let first : begin ≤ q.end = ends.0 in
     let rest : q.end ≤ length bytes = ends_within q.end (length bytes) qs ends.1 in
     ap (λ (n : List ℕ). token_of q n ∷ tokens_in (bytes ++ name) q.end (qs ++ p ∷ [])) (part_more bytes name begin q.end first rest)
-    ∙ ap (λ (ts : List Tok). token_of q (take (q.end - begin) (drop begin bytes)) ∷ ts) (token_pushed bytes name q.end qs p ends.1 end)
+    ∙ ap (λ (ts : List Held). token_of q (take (q.end - begin) (drop begin bytes)) ∷ ts) (token_pushed bytes name q.end qs p ends.1 end)
 
 pub end_pushed : (len more begin : ℕ) (ps : List Part) (p : Part) → AreEnds begin len ps → p.end ≡ len + more → AreEnds begin (len + more) (ps ++ p ∷ [])
 end_pushed len more begin [] p ends end = let at : begin ≡ len = ends in (omega arith, end)
@@ -53,6 +53,14 @@ pub are_ends_pushed : (bytes name all : List ℕ) (ps parts : List Part) (p : Pa
     → AreEnds 0 (length all) parts
 are_ends_pushed bytes name all ps parts p ends all_is parts_is end =
     rw all_is (rw parts_is (rw (length-append bytes name) (end_pushed (length bytes) (length name) 0 ps p ends end)))
+
+-- the first spelling does
+pub first_within : (len : ℕ) (ps : List Part) (p : Part) → slice_get ps 0 ≡ Some p → AreEnds 0 len ps → p.end ≤ len
+first_within len [] p is ends = cc
+first_within len (q ∷ qs) p is ends =
+    let same : q ≡ p = cc in
+    let rest : q.end ≤ len = ends_within q.end len qs ends.1 in
+    subst (λ (x : Part). x.end ≤ len) same rest
 
 -- each spelling ends within the bytes
 pub end_within : (begin len i : ℕ) (ps : List Part) (d : Part) → i < length ps → AreEnds begin len (drop i ps) → (get_or ps i d).end ≤ len

@@ -26,7 +26,7 @@ use Rattle.inc_pp.specs.Runs.{released}
 use Rattle.inc_pp.specs.Stops.{AreOf, IfBadFile, IfStop, IfUnread, halt_at, IsIn, IsUnder}
 use Rattle.inc_pp.specs.Tasks.{File, State, Entry, Here}
 use Rattle.inc_pp.specs.Walks.{lines_read, Held, held_at, fault_at, known_at, parts_in, deeper_at, file_at, all_read}
-use Rattle.inc_pp.specs.HeldFiles.{IsSkipped}
+use Rattle.inc_pp.specs.HeldFiles.{IsSkipped, NonePoisoned}
 use Rattle.inc_pp.specs.WalkJobs.{first_frame, frames_left, walk_left}
 use Rattle.inc_pp.specs.Includes.{included, most_reads}
 use Rattle.inc_pp.specs.declared.faults.Break.TheVariants as end
@@ -416,11 +416,11 @@ enter-break gives old new j held s file end.NoMemory stops fails bad unread = tt
 
 -- a file is entered of which nothing is left
 pub enter-passed : {S : Type 0} (gives : S → ℕ → Result (List ℕ) ReadFault → S → Type 0) (old new : S) (j : Job) (held : Held) (frames : List Frame) (from : Entry) (s t : State)
-    → IsEntering gives old new j held frames from s → t ≡ with_read from.at.file s → (ls : List FilePart) → held_at held from.at.file ≡ Some ls → IsSkipped t.table ls → IsWalk gives old new j held frames t
-enter-passed gives old new j held frames from s t e is ls at nothing =
+    → IsEntering gives old new j held frames from s → t ≡ with_read from.at.file s → (ls : List FilePart) → held_at held from.at.file ≡ Some ls → IsSkipped t.table ls → NonePoisoned t → IsWalk gives old new j held frames t
+enter-passed gives old new j held frames from s t e is ls at nothing none =
     subst (λ (x : State). IsWalk gives old new j held frames x) (sym is)
     (walk-passed gives old new j held frames first (with_read from.at.file s) (enter-again gives old new j held frames from s e ls first at refl) (with_read from.at.file s) first.here refl
-    (λ f under index. ap (λ xs. lines_read f (lines_of_parts xs) (with_read from.at.file s) first.here) (lines_are held from.at.file ls at) ∙ nothing f (with_read from.at.file s) first.here (ap (λ (x : State). x.table) (sym is))))
+    (λ f under index. ap (λ xs. lines_read f (lines_of_parts xs) (with_read from.at.file s) first.here) (lines_are held from.at.file ls at) ∙ nothing f (with_read from.at.file s) first.here (ap (λ (x : State). x.table) (sym is)) (subst NonePoisoned is none)))
   where
     first : Frame
     first = first_frame j.layout from

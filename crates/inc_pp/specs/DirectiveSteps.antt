@@ -14,7 +14,7 @@ use Rattle.inc_expand.specs.Expansion.{Place, Meter}
 use Rattle.inc_pp.specs.declared.causes.Cause.{Cause}
 use Rattle.inc_pp.specs.declared.causes.Cause.TheVariants as cause
 use Rattle.inc_pp.specs.declared.settings.Missing.{Missing}
-use Rattle.inc_pp.specs.Directives.{Numbering, counted, line_operands, names_once, put_pragma, renumbered, with_system, with_table, is_stacking, restacked}
+use Rattle.inc_pp.specs.Directives.{Numbering, counted, line_operands, names_once, put_pragma, names_poison, poisoned_by, renumbered, with_system, with_table, is_stacking, restacked}
 use Rattle.inc_pp.specs.Includes.{Header, header_in, is_done, most_reads, not_found, with_once}
 use Rattle.inc_pp.specs.Runs.{put_out}
 use Rattle.inc_pp.specs.Steps.{expansion_at}
@@ -53,7 +53,8 @@ restacked_by ts s = restacked (drop 2 ts) s.table >>= λ t. Ok (with_table t s)
 abbrev pub pragma_by : (marks : Option Place) → ℕ → List Tok → State → Result State Cause
 pragma_by marks file ts s =
     if names_once (drop 2 ts) then Ok (with_once file s) else
-    if is_stacking s.table.language (drop 2 ts) then restacked_by ts s
+    if is_stacking s.table.language (drop 2 ts) then restacked_by ts s else
+    if names_poison s.table.language (drop 2 ts) then poisoned_by (drop 2 (drop 2 ts)) s
     else Ok (put_out (put_pragma s.table.language marks (line_of_tokens ts) ts) s)
 
 abbrev pub define_by : List Tok → State → Result State Cause

@@ -1,5 +1,5 @@
 -- The other directives (ISO/IEC 9899:2018, 6.10.3 to 6.10.7). Choices of this profile: `#pragma once`; other pragmas are put out as they
--- are; `#warning` changes nothing. GNU C has line markers, `#pragma push_macro` and `#pragma pop_macro`.
+-- are; `#warning` changes nothing. GNU C has line markers, `#pragma push_macro`, `pop_macro` and `GCC poison`.
 use Rattle.std.specs.Prelude.{ℕ, ◌+◌, ◌&&◌, ◌||◌, Bool, true, false, List, [], ◌∷◌, Option, Some, None, Result, Ok, Err, if◌then◌else◌, take, drop, nat_le, nat_lt, codes, bytes_eq, pos, ◌-ℤ◌, ℤ, option_map, option_and_then, ok_or}
 use Rattle.std.specs.List.{list_all}
 use Rattle.inc_text.specs.declared.languages.Language.{Language}
@@ -10,17 +10,19 @@ use Rattle.inc_token.specs.Spellings.{is_digit}
 use Rattle.inc_token.specs.TokenLines.{Tok}
 use Rattle.inc_directive.specs.LineKinds.{LineKind, Text, Include, Other, line_of_tokens}
 use Rattle.inc_directive.specs.declared.kinds.DirectiveKind.{DirectiveKind}
-use Rattle.inc_directive.specs.declared.kinds.DirectiveKind.TheVariants.{Define, Undef, Line, Error, Pragma, Foreign, Unknown}
+use Rattle.inc_directive.specs.declared.kinds.DirectiveKind.TheVariants.{Define, Undef, Line, Error, Warning, Pragma, Ident, Null, Foreign, Unknown}
 use Rattle.inc_directive.specs.Groups.{FileLine}
 use Rattle.inc_macro.specs.Results.{◌>>=◌}
-use Rattle.inc_macro.specs.Macros.{Table, define, undef}
+use Rattle.inc_macro.specs.Macros.{Table, define, is_among, undef}
 use Rattle.inc_expand.specs.Expansion.{Item}
 use Rattle.inc_cond.specs.Constants.{number_in}
 use Rattle.inc_pp.specs.declared.causes.Cause.{Cause}
 use Rattle.inc_pp.specs.declared.causes.Cause.TheVariants as cause
 use Rattle.inc_pp.specs.Includes.{is_plain_string, include_target, included, with_once}
+pub use Rattle.inc_pp.specs.Poison.{line_asked, names_poison, poisoned_by}
 pub use Rattle.inc_pp.specs.Pragmas.{names_once, put_pragma, is_stacking, restacked}
 use Rattle.inc_text.specs.Languages.{is_gnu}
+use Rattle.inc_pp.specs.OpenCalls.{called_name}
 use Rattle.inc_pp.specs.Runs.{expanded, marks_in, put_out, released}
 use Rattle.inc_pp.specs.Sections.{operands}
 use Rattle.inc_pp.specs.Tasks.{File, State, Here, Halt, caused, halting}
@@ -28,7 +30,7 @@ use Rattle.inc_pp.specs.Tasks.{File, State, Here, Halt, caused, halting}
 -- with another table
 abbrev pub with_table : Table → State → State
 with_table table s =
-    record { table = table; once = s.once; meter = s.meter; reads = s.reads; output = s.output }
+    record { table = table; once = s.once; poisoned = s.poisoned; meter = s.meter; reads = s.reads; output = s.output }
 
 abbrev pub is_number_kind : Kind → Bool
 is_number_kind Number = true
@@ -96,12 +98,13 @@ abbrev pub with_system : Language → List Tok → Here → Here
 with_system language ts h =
     record h { standing = record h.standing { is_system = h.standing.is_system || (nat_lt 0 h.standing.level && names_system language ts) } }
 
--- `#pragma once` has its file read once; `#pragma push_macro` puts a definition aside, and `#pragma pop_macro` takes it back; any other
--- pragma is put out as it is, or not at all
+-- `#pragma once` has its file read once; `#pragma push_macro` puts a definition aside, and `#pragma pop_macro` takes it back; `#pragma GCC poison`
+-- takes names away; any other pragma is put out as it is, or not at all
 abbrev pub after_pragma : File → FileLine → State → Here → Result State Cause
 after_pragma f l s h =
     if names_once (operands l) then Ok (with_once f.index s) else
-    if is_stacking s.table.language (operands l) then (restacked (operands l) s.table >>= λ t. Ok (with_table t s))
+    if is_stacking s.table.language (operands l) then (restacked (operands l) s.table >>= λ t. Ok (with_table t s)) else
+    if names_poison s.table.language (operands l) then poisoned_by (drop 2 (operands l)) s
     else Ok (put_out (put_pragma s.table.language (marks_in f h) (line_of_tokens l.tokens) l.tokens) s)
 
 -- what a directive changes that is no include and of no section; `#warning`, `#ident`, `#sccs` and `#` alone change nothing
@@ -124,9 +127,42 @@ control_of (Include by target) f l s h =
 control_of Text f l s h = Ok (s, h)
 control_of (Other directive) f l s h = halting f (line_of_tokens l.tokens) s (changed directive f l s h)
 
-abbrev pub control_read : File → FileLine → State → Here → Result (State × Here) Halt
-control_read f l s h = control_of l.kind f l s h
+abbrev pub control_line : File → FileLine → State → Here → Result (State × Here) Halt
+control_line f l s h = control_of l.kind f l s h
 
--- a directive of no section: no token waits on for it
+-- no name of its line was taken away
+abbrev pub control_read : File → FileLine → State → Here → Result (State × Here) Halt
+control_read f l s h = line_asked f l s >>= λ _. control_line f l s h
+
+-- a pragma that changes macros, and one that gcc puts out behind the other directives in a call
+abbrev pub late_names : List (List ℕ)
+late_names = codes "message" ∷ codes "redefine_extname" ∷ []
+
+abbrev pub names_late : List Tok → Bool
+names_late [] = false
+names_late (t ∷ ts) = is_among t.spelling late_names
+
+abbrev pub ends_by_pragma : Language → List Tok → Bool
+ends_by_pragma language ts = is_stacking language ts || (names_poison language ts || names_late ts)
+
+-- the first operand is the name of the call that waits
+abbrev pub names_call : Option (List ℕ) → List Tok → Bool
+names_call (Some name) (t ∷ ts) = bytes_eq t.spelling name
+names_call _ _ = false
+
+-- a directive of this kind that a call does not go over, by its operands
+abbrev pub ends_call : LineKind → Language → (name : Option (List ℕ)) → List Tok → Bool
+ends_call (Include by target) language name ts = true
+ends_call (Other Line) language name ts = true
+ends_call (Other Define) language name ts = names_call name ts
+ends_call (Other Undef) language name ts = names_call name ts
+ends_call (Other Pragma) language name ts = ends_by_pragma language ts
+ends_call _ language name ts = false
+
+-- no call waits on for such a directive
+abbrev pub released_for : FileLine → File → State → Here → Result (State × Here) Halt
+released_for l f s h = if ends_call l.kind s.table.language (called_name h.waiting) (operands l) then released f s h else Ok (s, h)
+
+-- a directive of no section
 abbrev pub directive_read : File → FileLine → State → Here → Result (State × Here) Halt
-directive_read f l s h = released f s h >>= λ p. control_read f l p.0 p.1
+directive_read f l s h = released_for l f s h >>= λ p. control_read f l p.0 p.1

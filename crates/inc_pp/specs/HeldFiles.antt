@@ -30,9 +30,13 @@ pub record IsGuard (parts : List FilePart) (i : ℕ) : Type 0 where
   -- where its branch is not taken, the whole file changes nothing, but that no token waits on at its end
   pub passed : (f : File) (s : State) (h : Here) → is_taken f line s h ≡ Ok (false, s) → lines_read f (lines_of_parts parts) s h ≡ released f s h
 
--- with these macros the lines change nothing, but that no token waits on at their end
+-- no name was taken away by `#pragma GCC poison`
+abbrev pub NonePoisoned : State → Type 0
+NonePoisoned s = (name : List ℕ) → s.poisoned name ≡ false
+
+-- with these macros, and where no name was taken away, the lines change nothing, but that no token waits on at their end
 abbrev pub IsSkipped : Table → List FilePart → Type 0
-IsSkipped table parts = (f : File) (s : State) (h : Here) → s.table ≡ table → lines_read f (lines_of_parts parts) s h ≡ released f s h
+IsSkipped table parts = (f : File) (s : State) (h : Here) → s.table ≡ table → NonePoisoned s → lines_read f (lines_of_parts parts) s h ≡ released f s h
 
 -- while a macro has this name, the lines change nothing
 abbrev pub HasGuard : List FilePart → List ℕ → Type 0

@@ -4,9 +4,9 @@ pub mod Files
 pub mod Tasks
 pub mod Entries
 pub mod LineMarkers
+pub mod Poison
 pub mod Pragmas
 pub mod OpenCalls
-pub mod CallSteps
 pub mod Waiting
 pub mod Runs
 pub mod Sections

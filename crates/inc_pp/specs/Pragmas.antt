@@ -2,11 +2,11 @@
 -- Choices of this profile: the tokens of an operator's pragma are those of the line that has its string, destringized, after `#pragma`;
 -- `push_macro` and `pop_macro` of GNU C are directives alone.
 use Rattle.std.specs.Prelude.{ℕ, ◌==◌, ◌&&◌, ◌||◌, not, Bool, true, false, List, [], ◌∷◌, ◌++◌, Option, Some, None, Result, Ok, Err, if◌then◌else◌, map, drop, codes, bytes_eq, nat_lt, ok_or, option_map, slice_index}
-use Rattle.std.specs.List.{list_all}
-use Rattle.inc_text.specs.Ascii.{backslash, quotation_mark}
+use Rattle.std.specs.List.{list_all, list_any}
+use Rattle.inc_text.specs.Ascii.{apostrophe, backslash, quotation_mark}
 use Rattle.inc_text.specs.PhaseText.{is_too_long, phase_text}
 use Rattle.inc_token.specs.declared.kinds.Kind.{Kind}
-use Rattle.inc_token.specs.declared.kinds.Kind.TheVariants.{Identifier}
+use Rattle.inc_token.specs.declared.kinds.Kind.TheVariants.{Identifier, Other}
 use Rattle.inc_text.specs.declared.languages.Language.{Language}
 use Rattle.inc_text.specs.declared.languages.Language.TheVariants.{C17}
 use Rattle.inc_text.specs.Languages.{is_gnu}
@@ -21,7 +21,12 @@ use Rattle.inc_cond.specs.Headers.{is_str_kind}
 use Rattle.inc_pp.specs.declared.causes.Cause.{Cause}
 use Rattle.inc_pp.specs.declared.causes.Cause.TheVariants.{BadPragma}
 use Rattle.inc_pp.specs.LineMarkers.{next_token, own_line}
+use Rattle.inc_pp.specs.Poison.{names_poison}
 use Rattle.inc_pp.specs.Tasks.{OutToken}
+
+abbrev pub is_other_kind : Kind → Bool
+is_other_kind Other = true
+is_other_kind _ = false
 
 -- tokens that are put out, and whether the file at hand is from now on read once
 pub record Laid : Type 0 where
@@ -141,9 +146,9 @@ unescaped (b ∷ c ∷ bs) = if is_escape b c then c ∷ unescaped bs else b ∷
 abbrev pub pragma_text : (literal : List ℕ) → List ℕ
 pragma_text literal = codes "#pragma " ++ unescaped (after_quote literal)
 
--- a definition is not put aside, nor taken back, among tokens that are expanded before it is
+-- a definition is not put aside, nor taken back, nor a name taken away, among tokens that are expanded before that is done
 abbrev pub operated : Language → List Tok → Result (List Tok) Cause
-operated language ts = if is_stacking language (drop 2 ts) then Err BadPragma else Ok ts
+operated language ts = if is_stacking language (drop 2 ts) || names_poison language (drop 2 ts) then Err BadPragma else Ok ts
 
 abbrev pub tokens_or_bad : Language → Result (List TokenLine) LexFault → Result (List Tok) Cause
 tokens_or_bad language (Ok lines) = operated language (first_tokens lines)
@@ -166,6 +171,14 @@ abbrev pub where_fits : Bool → Result Laid Cause → Result Laid Cause
 where_fits true r = r
 where_fits false r = Err BadPragma
 
+-- a quote of GNU C without a partner
+abbrev pub is_lone : Language → Item → Bool
+is_lone language i = is_gnu language && (is_other_kind i.kind && list_any (λ b. (b == apostrophe) || (b == quotation_mark)) i.spelling)
+
+-- the line of a token, with which what follows it goes on; a lone quote takes the rest of its line, so that what follows begins one
+abbrev pub line_behind : Language → Item → Option ℕ
+line_behind language i = if is_lone language i then None else Some i.line
+
 -- expanded tokens, after one that is from a line, or first of a line that is put out: an operator ends the line before it, and what
 -- follows its pragma, which is marked by the line of its `)`, begins one
 abbrev mutual
@@ -173,7 +186,7 @@ abbrev mutual
   laid language marks last [] = Ok nothing
   laid language marks last (i ∷ is) =
       if is_operator language i then after_name language marks is
-      else before (plain language marks last i) (laid language marks (Some i.line) is)
+      else before (plain language marks last i) (laid language marks (line_behind language i) is)
 
   -- after `_Pragma`
   pub after_name : Language → (marks : Option Place) → List Item → Result Laid Cause

@@ -41,7 +41,7 @@ tree_read f (Err fault) s h = halting f fault.1 s (Err fault.0)
 -- with one more file read
 abbrev pub with_read : ℕ → State → State
 with_read file s =
-    record { table = s.table; once = s.once; meter = s.meter; reads = s.reads ++ (file ∷ []); output = s.output }
+    record { table = s.table; once = s.once; poisoned = s.poisoned; meter = s.meter; reads = s.reads ++ (file ∷ []); output = s.output }
 
 -- a file is added to the reads, then read from the top
 abbrev pub file_read : Task → Deeper → Entry → State → Result State Halt

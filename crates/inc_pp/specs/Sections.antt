@@ -11,6 +11,7 @@ use Rattle.inc_cond.specs.declared.values.CondValue.TheVariants.{Signed, Unsigne
 use Rattle.inc_cond.specs.Conditions.{condition}
 use Rattle.inc_pp.specs.declared.causes.Cause.{Cause}
 use Rattle.inc_pp.specs.declared.causes.Cause.TheVariants.{Condition, BadName}
+use Rattle.inc_pp.specs.Poison.{line_asked}
 use Rattle.inc_pp.specs.Runs.{with_meter}
 use Rattle.inc_pp.specs.Tasks.{File, State, Here, Halt, caused, halting, place_of, search_of}
 
@@ -51,6 +52,10 @@ condition_of (Other Elifdef) f l s h = if_defined l s
 condition_of (Other Elifndef) f l s h = if_not_defined l s
 condition_of _ f l s h = if_true f l s h
 
--- whether a branch is taken
+-- whether a branch is chosen by its line
+abbrev pub is_chosen : File → FileLine → State → Here → Result (Bool × State) Halt
+is_chosen f l s h = halting f (line_of_tokens l.tokens) s (condition_of l.kind f l s h)
+
+-- whether it is taken: no name of its line was taken away
 abbrev pub is_taken : File → FileLine → State → Here → Result (Bool × State) Halt
-is_taken f l s h = halting f (line_of_tokens l.tokens) s (condition_of l.kind f l s h)
+is_taken f l s h = line_asked f l s >>= λ _. is_chosen f l s h

@@ -7,6 +7,7 @@ use Rattle.inc_macro.specs.Results.{◌>>=◌}
 use Rattle.inc_macro.specs.Macros.{Table, is_defined}
 use Rattle.inc_expand.specs.declared.places.Mode.TheVariants.{Plain}
 use Rattle.inc_expand.specs.Expansion.{Place, Item, Meter, expansion}
+use Rattle.inc_expand.specs.Openings.{Held, opening}
 use Rattle.inc_cond.specs.Conditions.{condition}
 use Rattle.inc_cond.specs.Headers.{HeaderSearch}
 use Rattle.inc_pp.specs.declared.causes.Cause.{Cause}
@@ -39,6 +40,15 @@ expansion_at place table meter ts = caused Expand (expansion (record { table = t
 abbrev pub laid_at : (marks : Option Place) → Place → Table → Meter → List Tok → Result (Laid × Meter) Cause
 laid_at marks place table meter ts =
     expansion_at place table meter ts >>= λ r. laid table.language marks None r.0 >>= λ l. Ok (l, r.1)
+
+-- expanded tokens before the call that is open at the end of a run, that call, and the meter after them; those that wait come first
+abbrev pub open_expansion_at : Place → Table → Meter → List Held → List Tok → Result (List Item × List Held × Meter) Cause
+open_expansion_at place table meter waiting ts = caused Expand (opening (record { table = table; mode = Plain; place = place }) meter waiting ts)
+
+-- what is before the call that is open at the end of a run puts out, that call, and the meter after it; those that wait come first
+abbrev pub opened_at : (marks : Option Place) → Place → Table → Meter → List Held → List Tok → Result (Laid × List Held × Meter) Cause
+opened_at marks place table meter waiting ts =
+    open_expansion_at place table meter waiting ts >>= λ r. laid table.language marks None r.0 >>= λ l. Ok (l, r.1, r.2)
 
 -- what a line of this kind asks
 abbrev pub test_of : LineKind → Test

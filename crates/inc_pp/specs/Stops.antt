@@ -1,5 +1,5 @@
 -- Why a step of a preprocessing does not go on, and what it knows of the file at hand.
-use Rattle.std.specs.Prelude.{◌≡◌, ℕ, Bool, List, is_some}
+use Rattle.std.specs.Prelude.{◌≡◌, ℕ, Bool, false, List, is_some}
 use Rattle.std.specs.List.{All}
 use Rattle.inc_text.specs.declared.devices.ReadFault.{ReadFault}
 use Rattle.inc_text.specs.declared.languages.Language.{Language}
@@ -11,6 +11,7 @@ use Rattle.inc_cond.specs.Headers.{HeaderSearch}
 use Rattle.inc_pp.specs.declared.causes.Cause.{Cause}
 use Rattle.inc_pp.specs.declared.faults.Break.{Break}
 use Rattle.inc_pp.specs.declared.faults.Break.TheVariants.{Stop, Unread, NoMemory}
+use Rattle.inc_pp.specs.Runs.{is_unclosed}
 use Rattle.inc_pp.specs.Settings.{Settings}
 use Rattle.inc_pp.specs.Tasks.{File, State, Halt, layout_in, search_of}
 
@@ -61,3 +62,9 @@ pub record IsIn (layout : Layout) (settings : Settings) (found : Found) (nests :
 -- the kinds of lines are those of a language
 abbrev pub AreOf : Language → List FileLine → Type 0
 AreOf language lines = All (λ (l : FileLine). l.kind ≡ line_kind language l.tokens) lines
+
+-- a stop because a call has no end
+abbrev pub is_unclosed_stop : Break → Bool
+is_unclosed_stop (Stop line cause) = is_unclosed cause
+is_unclosed_stop (Unread fault) = false
+is_unclosed_stop NoMemory = false

@@ -1,11 +1,11 @@
 -- What a preprocessing carries, and how it stops.
 use Rattle.std.specs.Prelude.{ℕ, Bool, false, List, [], ◌∷◌, Option, None, Result, Ok, Err, ℤ, pos, unwrap_or}
 use Rattle.inc_token.specs.declared.kinds.Kind.{Kind}
-use Rattle.inc_token.specs.TokenLines.{Tok}
 use Rattle.inc_lookup.specs.declared.projects.DirectiveId.{DirectiveId}
 use Rattle.inc_lookup.specs.Projects.{Layout, Listing, layout_of, path_at}
 use Rattle.inc_macro.specs.Macros.{Table}
 use Rattle.inc_expand.specs.Expansion.{Place, Item, Meter, first_meter, in_quotes, escaped}
+use Rattle.inc_expand.specs.Openings.{Held}
 use Rattle.inc_cond.specs.Headers.{HeaderSearch}
 use Rattle.inc_pp.specs.declared.causes.Cause.{Cause}
 use Rattle.inc_pp.specs.declared.causes.Stop.{Stop}
@@ -30,13 +30,15 @@ abbrev pub line_tokens : (starts : Bool) → List Item → List OutToken
 line_tokens starts [] = []
 line_tokens starts (i ∷ is) = record { kind = i.kind; spelling = i.spelling; starts = starts } ∷ line_tokens false is
 
--- what the whole preprocessing changes: macros, a test of the files that `#pragma once` named, work units left and counts given, files read so far, and
--- tokens put out so far
+-- what the whole preprocessing changes: macros, a test of the files that `#pragma once` named, one of the names that `#pragma GCC poison` took away, work
+-- units left and counts given, files read so far, and tokens put out so far
 pub record State : Type 0 where
   -- the macros
   pub table : Table
   -- whether `#pragma once` named a file
   pub once : ℕ → Bool
+  -- whether `#pragma GCC poison` took a name away
+  pub poisoned : List ℕ → Bool
   -- how many work units are left, and how many counts were given
   pub meter : Meter
   -- the files that were read, the first one first
@@ -53,7 +55,7 @@ pub record Here : Type 0 where
   -- how it came to be read
   pub standing : Standing
   -- the tokens of text lines that wait for the rest of a call
-  pub waiting : List Tok
+  pub waiting : List Held
   -- how many parentheses of the call are open
   pub deep : ℕ
 
@@ -99,7 +101,7 @@ start layout e = record {
 
 -- nothing is read yet, all units are there, and no count was given
 abbrev pub begun : Table → State
-begun table = record { table = table; once = λ _. false; meter = first_meter; reads = []; output = [] }
+begun table = record { table = table; once = λ _. false; poisoned = λ _. false; meter = first_meter; reads = []; output = [] }
 
 ---- stops
 

@@ -36,8 +36,11 @@ pub enum Cause {
     /// More than 100,000 files would be read.
     TooManyReads,
     /// A `_Pragma` is followed by something else than a string literal in parentheses, or its text is no line: a comment in it has no end;
-    /// or its pragma is `push_macro` or `pop_macro`, or a `#pragma` of these has no name in a string literal in parentheses.
+    /// or its pragma is `push_macro`, `pop_macro` or `GCC poison`; or a `#pragma` of the first two has no name in a string literal in
+    /// parentheses, or one of the last something else than names that may be undefined.
     BadPragma,
+    /// A line that is read has a name that `#pragma GCC poison` took away.
+    Poisoned,
 }
 
 /// Where and why a preprocessing stopped.

@@ -74,6 +74,36 @@ impl State {
             slice_get lines.now i ≡ Some (DirectivePart l) →
             spec.is_taken f l (state_of self.old) here.now ≡ Err (halt_at f (state_of self.old) line cause)))) }
     {
+        match self.ask_line(lines, i) {
+            Ok(()) => {}
+            Err(fault) => return Err(fault),
+        }
+        match self.chooses(settings, headers, lines, i, here) {
+            Ok(taken) => Ok(taken),
+            Err(fault) => Err(fault),
+        }
+    }
+
+    /// The same of a line in which no name was taken away.
+    fn chooses(
+        &mut self,
+        settings: &Settings<'_>,
+        headers: &HeaderSearch<'_>,
+        lines: &FileLines,
+        i: usize,
+        here: &Here,
+    ) -> Result<bool, Break>
+        requires within { i < length lines.now }
+        requires kinds { AreOf settings.now.language (lines_of_parts lines.now) }
+        ensures done { IfOk result (λ taken. (f : File) (l : FileLine) → IsSearched settings.now headers.now f →
+            slice_get lines.now i ≡ Some (DirectivePart l) →
+            spec.is_chosen f l (state_of self.old) here.now ≡ Ok (taken, state_of self.new)) }
+        ensures reads { (state_of self.new).reads ≡ (state_of self.old).reads }
+        ensures stop { IfErr result (λ fault. IfStop fault (λ line cause.
+            (state_of self.new ≡ state_of self.old) × ((f : File) (l : FileLine) → IsSearched settings.now headers.now f →
+            slice_get lines.now i ≡ Some (DirectivePart l) →
+            spec.is_chosen f l (state_of self.old) here.now ≡ Err (halt_at f (state_of self.old) line cause)))) }
+    {
         match test_of(lines.kind(i)) {
             Test::Defined => defined_at(&self.macros, lines, i),
             Test::Undefined => undefined_at(&self.macros, lines, i),

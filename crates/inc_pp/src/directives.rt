@@ -26,6 +26,7 @@ use crate::faults::Break;
 use crate::includes::sought;
 use crate::line_numbers::{Here, Numbering, renumbered};
 use crate::lines::{after_first, first_line, operands};
+use crate::poison::names_poison;
 use crate::pragmas::{is_stacking, names_once, put_tokens, stacked_name};
 use crate::settings::Settings;
 use crate::states::State;
@@ -63,6 +64,42 @@ impl State {
             × ((state_of self.new).reads ≡ (state_of self.old).reads)
             × ((f : File) (l : FileLine) → IsIn project.now settings.now at.now nests f → slice_get lines.now i ≡ Some (DirectivePart l) →
             spec.control_read f l (state_of self.old) here.old ≡ Err (halt_at f (state_of self.old) line cause)))) }
+    {
+        match self.ask_line(lines, i) {
+            Ok(()) => {}
+            Err(fault) => return Err(fault),
+        }
+        match self.control_line(project, settings, lines, i, at, nests, here) {
+            Ok(found) => Ok(found),
+            Err(fault) => Err(fault),
+        }
+    }
+
+    /// The same of a line in which no name was taken away.
+    fn control_line(
+        &mut self,
+        project: &Project<'_>,
+        settings: &Settings<'_>,
+        lines: &FileLines,
+        i: usize,
+        at: &Found,
+        nests: bool,
+        here: &mut Here,
+    ) -> Result<Option<Entry>, Break>
+        requires within { i < length lines.now }
+        requires kinds { AreOf settings.now.language (lines_of_parts lines.now) }
+        requires file { at.now.file < length project.now.paths }
+        ensures done { IfOk result (λ found. (f : File) (l : FileLine) →
+            IsIn project.now settings.now at.now nests f → slice_get lines.now i ≡ Some (DirectivePart l) →
+            spec.control_line f l (state_of self.old) here.old ≡ included f.deeper found (state_of self.new) here.new) }
+        ensures within { IfOk result (λ found. IfSome found (λ k. (k.at.file < length project.now.paths) × (nests ≡ true))) }
+        ensures fits { IfOk result (λ found. IfSome found (λ _. length (state_of self.new).reads < most_reads)) }
+        ensures reads { (state_of self.new).reads ≡ (state_of self.old).reads }
+        ensures stop { IfErr result (λ fault. IfStop fault (λ line cause.
+            ((state_of self.new).output ≡ (state_of self.old).output)
+            × ((state_of self.new).reads ≡ (state_of self.old).reads)
+            × ((f : File) (l : FileLine) → IsIn project.now settings.now at.now nests f → slice_get lines.now i ≡ Some (DirectivePart l) →
+            spec.control_line f l (state_of self.old) here.old ≡ Err (halt_at f (state_of self.old) line cause)))) }
     {
         match lines.kind(i) {
             LineKind::Include(by, target) => {
@@ -221,7 +258,8 @@ impl State {
         }
     }
 
-    /// Has the file read once, has a definition put aside or taken back, or puts another pragma out as it is, or not at all.
+    /// Has the file read once, has a definition put aside or taken back, has names taken away, or puts another pragma out as it is, or not
+    /// at all.
     fn obey_pragma(
         &mut self,
         tokens: &[Token<'_>],
@@ -241,6 +279,10 @@ impl State {
         }
         if is_stacking(self.macros.language(), operands(tokens)) {
             self.restack(tokens)?;
+            return Ok(());
+        }
+        if names_poison(self.macros.language(), operands(tokens)) {
+            self.obey_poison(operands(operands(tokens)), first_line(tokens))?;
             return Ok(());
         }
         self.put_pragma(tokens, marks)?;

@@ -4,6 +4,7 @@
 pub mod blanking_laws;
 mod causes;
 mod conditions;
+mod directive_calls;
 mod directives;
 mod entries;
 mod expansions;
@@ -26,6 +27,7 @@ mod open_calls;
 mod operators;
 mod outcomes;
 mod output;
+mod poison;
 mod pragmas;
 mod runs;
 mod settings;

@@ -1,5 +1,5 @@
 //! Names and numbers of lines (ISO/IEC 9899:2018, 6.10.4).
-ghost use Rattle.std.specs.Prelude.{◌≡◌, ◌<◌, ◌*◌, ◌+◌, ◌++◌, ◌&&◌, [], Some, bytes_eq, codes, length, None, map, nat_le, if◌then◌else◌, IfOk, OnOk, option_map};
+ghost use Rattle.std.specs.Prelude.{◌≡◌, ◌<◌, ◌*◌, ◌+◌, ◌++◌, ◌&&◌, [], Some, Ok, Err, bytes_eq, codes, length, None, map, nat_le, if◌then◌else◌, IfOk, IfErr, OnOk, option_map};
 ghost use Rattle.std.specs.List.{list_all};
 ghost use Rattle.inc_token.specs.Spellings.{is_digit};
 ghost use Rattle.inc_token.specs.Views.{seen};
@@ -9,18 +9,22 @@ ghost use Rattle.inc_cond.specs.Constants.{digit_of, number_in};
 ghost use Rattle.inc_pp.specs.Directives as spec;
 ghost use Rattle.inc_pp.specs.DirectiveSteps.{here_by};
 ghost use Rattle.inc_pp.specs.LineMarkers.{marks_of};
-ghost use Rattle.inc_pp.specs.Runs.{with_waiting};
+ghost use Rattle.inc_expand.specs.Openings.{held_source};
+ghost use Rattle.inc_pp.specs.Runs.{line_of_run, released, with_waiting};
+ghost use Rattle.inc_pp.specs.Stops.{IfStop, halt_at};
 ghost use Rattle.inc_pp.specs.Steps.{place_under};
-ghost use Rattle.inc_pp.specs.Tasks.{start};
+ghost use Rattle.inc_pp.specs.Tasks.{File, State, start};
 
+use crate::causes::Cause;
 use crate::entries::{Entry, Standing};
+use crate::faults::Break;
 use crate::headers::is_plain_string;
-use crate::lines::operands;
+use crate::lines::{first_line, operands};
 use crate::literals::literal_of;
 use crate::settings::Settings;
-use crate::waiting::Waiting;
+use crate::waiting::{Open, Waiting};
 use inc_directive::DirectiveKind;
-use inc_expand::{Item, Place};
+use inc_expand::{ExpandFault, Item, Place};
 use inc_lookup::Project;
 use inc_text::Language;
 use inc_token::{Kind, Token};
@@ -115,21 +119,45 @@ impl Here {
 
     /// Has more tokens wait, with so many parentheses open after them.
     pub(crate) fn wait(&mut self, tokens: &[Token<'_>], deep: usize) -> Result<(), AllocError>
-        ensures { OnOk result (self.new ≡ with_waiting (self.old.waiting ++ map seen tokens.now) deep self.old) }
+        ensures { OnOk result (self.new ≡ with_waiting (self.old.waiting ++ map held_source (map seen tokens.now)) deep self.old) }
     {
         self.waiting.add(tokens)?;
         self.deep = deep;
         Ok(())
     }
 
-    /// Has none wait.
-    pub(crate) fn release(&mut self)
-        ensures { self.new ≡ with_waiting [] 0 self.old }
+    /// Has an open call wait in place of what waits.
+    pub(crate) fn hold(&mut self, held: Open)
+        ensures { self.new ≡ with_waiting held.waiting held.deep self.old }
     {
-        if !self.waiting.is_empty() {
-            self.waiting.clear();
+        let Open { waiting, deep } = held;
+        self.waiting = waiting;
+        self.deep = deep;
+    }
+
+    /// Stops where a call waits: it has no end.
+    pub(crate) fn release(&self) -> Result<(), Break>
+        ensures done { OnOk result ((f : File) (s : State) → released f s self.now ≡ Ok (s, self.now)) }
+        ensures stop { IfErr result (λ fault. IfStop fault (λ line cause. (f : File) (s : State) →
+            released f s self.now ≡ Err (halt_at f s line cause))) }
+    {
+        match self.waiting.first_line() {
+            None => Ok(()),
+            Some(line) => Err(Break::Stop {
+                line,
+                cause: Cause::Expand(ExpandFault::UnclosedCall),
+            }),
         }
-        self.deep = 0;
+    }
+
+    /// The line at which a fault of a run stops the preprocessing: that of the first token that waits, or of the first of these.
+    pub(crate) fn line_of_run(&self, tokens: &[Token<'_>]) -> u32
+        ensures { result ≡ line_of_run self.now.waiting (map seen tokens.now) }
+    {
+        match self.waiting.first_line() {
+            None => first_line(tokens),
+            Some(line) => line,
+        }
     }
 
     /// Takes what a directive of no section says of the lines that follow in the file: `#line` is not among these.

@@ -149,7 +149,7 @@ fn read_control(
     let part = frame.part;
     let at = frame.at;
     let here = &mut frame.here;
-    match state.release(settings, at.file, here) {
+    match state.release_for(lines, part, here) {
         Ok(()) => {}
         Err(fault) => return Err(fault),
     }

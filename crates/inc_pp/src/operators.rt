@@ -1,5 +1,7 @@
 //! Pragma operators (ISO/IEC 9899:2018, 6.10.9), among tokens that are put out as their expansion gives them.
-ghost use Rattle.std.specs.Prelude.{◌≡◌, List, [], ◌∷◌, false, None, Some, Ok, Err, IfOk, IfErr, OnOk, codes, bytes_eq, map, option_map};
+ghost use Rattle.std.specs.Prelude.{◌≡◌, ◌==◌, ◌||◌, List, [], ◌∷◌, false, None, Some, Ok, Err, IfOk, IfErr, OnOk, codes, bytes_eq, map, option_map};
+ghost use Rattle.std.specs.List.{list_any};
+ghost use Rattle.inc_text.specs.Ascii.{apostrophe, quotation_mark};
 ghost use Rattle.inc_token.specs.Views.{seen};
 ghost use Rattle.inc_macro.specs.Macros.{first_tokens};
 ghost use Rattle.inc_expand.specs.Expansion.{Item};
@@ -11,7 +13,7 @@ ghost use Rattle.inc_pp.specs.Pragmas as spec;
 use crate::causes::Cause;
 use crate::lines::operands;
 use crate::output::Output;
-use crate::pragmas::{is_stacking, names_once, pragma_line, put_tokens};
+use crate::pragmas::{changes_macros, names_once, pragma_line, put_tokens};
 use inc_expand::{ItemRef, Place, Sink};
 use inc_text::{Language, Text};
 use inc_token::{Kind, LexFault, Lines, Token, lex};
@@ -108,7 +110,7 @@ impl<'p> Operators<'p> {
         }
         self.output
             .put_next(self.language, &self.marks, self.last, token)?;
-        self.last = Some(token.line);
+        self.last = line_behind(self.language, token);
         Ok(())
     }
 
@@ -198,15 +200,15 @@ impl<'p> Operators<'p> {
         }
     }
 
-    /// Does what the pragma of a line says, unless it would put a definition aside or take one back: the tokens behind it are expanded
-    /// already.
+    /// Does what the pragma of a line says, unless it would put a definition aside or take one back, or take a name away: the tokens
+    /// behind it are expanded already.
     fn act_on_line(&mut self, tokens: &[Token<'_>], line: u32) -> Result<(), AllocError>
         requires { self.old.fault ≡ None }
         ensures same { OnOk result ((is : List Item) → outcome self.new is
             ≡ outcome_behind (spec.operated self.old.language (map seen tokens.now)) line self.old is) }
         ensures grows { OnOk result (Grows self.old.output self.new.output) }
     {
-        if is_stacking(self.language, operands(tokens)) {
+        if changes_macros(self.language, operands(tokens)) {
             self.fault = Some(Cause::BadPragma);
             return Ok(());
         }
@@ -269,6 +271,31 @@ fn is_operator(language: Language, token: ItemRef<'_>) -> bool
     ensures { result ≡ spec.is_operator language (seen_ref token.entry) }
 {
     language.is_gnu() && token.kind == Kind::Identifier && token.bytes == b"_Pragma".as_slice()
+}
+
+/// Whether some bytes hold a quote.
+fn has_quote(bytes: &[u8]) -> bool
+    ensures { result ≡ list_any (λ b. (b == apostrophe) || (b == quotation_mark)) bytes.now }
+{
+    bytes.iter().any(|b| *b == b'\'' || *b == b'"')
+}
+
+/// Whether a token is a lone quote.
+fn is_lone(language: Language, token: ItemRef<'_>) -> bool
+    ensures { result ≡ spec.is_lone language (seen_ref token.entry) }
+{
+    language.is_gnu() && token.kind == Kind::Other && has_quote(token.bytes)
+}
+
+/// The physical line of the token after which the next one goes on with a line; none after a lone quote.
+fn line_behind(language: Language, token: ItemRef<'_>) -> Option<u32>
+    ensures { result ≡ spec.line_behind language (seen_ref token.entry) }
+{
+    if is_lone(language, token) {
+        None
+    } else {
+        Some(token.line)
+    }
 }
 
 /// The tokens of the first line.

@@ -1,5 +1,5 @@
 //! What pragmas say, and the pragma that a `_Pragma` has in its string literal (ISO/IEC 9899:2018, 6.10.9).
-ghost use Rattle.std.specs.Prelude.{◌≡◌, ◌==◌, ◌++◌, List, IfOk, OnOk, codes, map, option_map};
+ghost use Rattle.std.specs.Prelude.{◌≡◌, ◌==◌, ◌||◌, ◌++◌, List, IfOk, OnOk, codes, map, option_map};
 ghost use Rattle.std.specs.List.{list_all};
 ghost use Rattle.inc_text.specs.Ascii.{quotation_mark};
 ghost use Rattle.inc_token.specs.Spellings.{class_of};
@@ -9,10 +9,12 @@ ghost use Rattle.inc_text.specs.declared.languages.Language.{Language};
 ghost use Rattle.inc_directive.specs.LineKinds.{inner_bytes};
 ghost use Rattle.inc_macro.specs.Macros.{is_among, stands_first};
 ghost use Rattle.inc_pp.specs.Operators.{tokens_in_text};
+ghost use Rattle.inc_pp.specs.Poison.{names_poison};
 ghost use Rattle.inc_pp.specs.Pragmas as spec;
 
 use crate::headers::{begins_with_quote, inner_bytes};
 use crate::lines::operands;
+use crate::poison::names_poison;
 use inc_text::{Language, Text, TextFault, splice_owned};
 use inc_token::{Kind, Token, kind_of};
 use std::alloc::{AllocError, Global};
@@ -126,7 +128,14 @@ pub(crate) fn is_stacking(language: Language, tokens: &[Token<'_>]) -> bool
     }
 }
 
-/// Whether pragmas of this name do so.
+/// Whether a pragma with this after its name does so, or takes names away.
+pub(crate) fn changes_macros(language: Language, tokens: &[Token<'_>]) -> bool
+    ensures { result ≡ (spec.is_stacking language (map seen tokens.now) || names_poison language (map seen tokens.now)) }
+{
+    is_stacking(language, tokens) || names_poison(language, tokens)
+}
+
+/// Whether pragmas of this name put definitions aside, or take them back.
 fn is_stacking_name(name: &[u8]) -> bool
     ensures { result ≡ is_among name.now spec.stacking_names }
 {

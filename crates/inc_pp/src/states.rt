@@ -1,5 +1,5 @@
 //! What a whole preprocessing changes.
-ghost use Rattle.std.specs.Prelude.{◌≡◌, length, nat_eq, OnOk};
+ghost use Rattle.std.specs.Prelude.{◌≡◌, ◌||◌, ℕ, List, length, nat_eq, bytes_eq, OnOk};
 ghost use Rattle.std.specs.List.{list_any};
 ghost use Rattle.inc_macro.specs.Tables.{table_of};
 ghost use Rattle.inc_pp.specs.Includes.{with_once};
@@ -11,8 +11,8 @@ use crate::files_read::FilesRead;
 use crate::output::Output;
 use inc_expand::Budget;
 use inc_lookup::FileId;
-use inc_macro::Macros;
-use inc_text::{flag_at, set_flag};
+use inc_macro::{DistinctNames, Macros};
+use inc_text::{SeededState, flag_at, set_flag};
 use std::alloc::{AllocError, Global};
 
 /// What a whole preprocessing changes.
@@ -24,6 +24,8 @@ pub(crate) struct State {
     pub(crate) macros: Macros,
     /// For the files up to some place, whether they are read once.
     once: Vec<bool>,
+    /// The names that `#pragma GCC poison` took away.
+    pub(crate) poisoned: DistinctNames,
     pub(crate) budget: Budget,
     /// The files read so far.
     reads: FilesRead,
@@ -40,6 +42,7 @@ impl State {
             seed,
             macros,
             once: Vec::new(alloc),
+            poisoned: DistinctNames::new(alloc),
             budget: Budget::new(),
             reads: FilesRead::new(alloc),
             output: Output::new(alloc),
@@ -80,6 +83,20 @@ impl State {
         ensures reads { (state_of self.new).reads ≡ (state_of self.old).reads }
     {
         set_flag(&mut self.once, file.index())
+    }
+
+    /// Has a name among those that were taken away.
+    pub(crate) fn note_poisoned(&mut self, name: &[u8]) -> Result<(), AllocError>
+        ensures done { OnOk result ((other : List ℕ) → (state_of self.new).poisoned other
+            ≡ (bytes_eq other name.now || (state_of self.old).poisoned other)) }
+        ensures others { record (state_of self.new) { poisoned = (state_of self.old).poisoned } ≡ state_of self.old }
+    {
+        if self.poisoned.contains(name) {
+            return Ok(());
+        }
+        self.poisoned
+            .add(self.alloc, SeededState::new(self.seed), name)?;
+        Ok(())
     }
 
     /// Whether a file is read once.

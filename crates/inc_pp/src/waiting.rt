@@ -1,8 +1,13 @@
 //! The tokens of text lines that wait for the rest of a call.
-ghost use Rattle.std.specs.Prelude.{◌≡◌, ◌+◌, ◌++◌, ◌∷◌, [], map, true, false, OnOk, IfOk};
+ghost use Rattle.std.specs.Prelude.{◌≡◌, ◌+◌, ◌++◌, ◌∷◌, [], map, true, false, option_map, OnOk, IfOk};
 ghost use Rattle.inc_token.specs.Views.{seen};
+ghost use Rattle.inc_expand.specs.HeldTokens.{seen_held, seen_ref};
+ghost use Rattle.inc_expand.specs.Openings.{held_source};
+ghost use Rattle.inc_pp.specs.OpenCalls.{called_name, first_line_in, open_in_call};
 ghost use Rattle.inc_pp.specs.Waiting.{token_of};
 
+use crate::open_calls::open_in_call;
+use inc_expand::{Held, HeldRef};
 use inc_token::{Kind, Token};
 use std::alloc::{AllocError, Global};
 use std::marker::Model;
@@ -11,11 +16,10 @@ use std::marker::Model;
 #[derive(Clone, Copy)]
 pub(crate) struct Part {
     end: u32,
-    first: u32,
-    last: u32,
     line: u32,
     kind: Kind,
     space: bool,
+    painted: bool,
 }
 
 /// Tokens that are kept until the lines of a file are no longer at hand from which they are. Their spellings lie one after the other in one list, so that
@@ -29,10 +33,10 @@ pub(crate) struct Waiting {
 
 impl Model for Waiting {
     ghost use Rattle.std.specs.Prelude.{List, length};
-    ghost use Rattle.inc_token.specs.TokenLines.{Tok};
+    ghost use Rattle.inc_expand.specs.Openings.{Held};
     ghost use Rattle.inc_pp.specs.Waiting.{tokens_in, AreEnds};
 
-    ghost Value = { List Tok };
+    ghost Value = { List Held };
 
     ghost view = { λ w. tokens_in w.bytes.items 0 w.parts.items };
 
@@ -40,16 +44,41 @@ impl Model for Waiting {
 }
 
 /// The token, its spelling lent.
-fn lent<'w>(part: &Part, spelling: &'w [u8]) -> Token<'w>
-    ensures { seen result ≡ token_of part.now spelling.now }
+fn lent<'w>(part: &Part, spelling: &'w [u8]) -> HeldRef<'w>
+    ensures { seen_ref result ≡ token_of part.now spelling.now }
 {
-    Token {
-        spelling,
-        first: part.first,
-        last: part.last,
-        line: part.line,
+    HeldRef {
         kind: part.kind,
+        spelling,
+        line: part.line,
         space: part.space,
+        painted: part.painted,
+    }
+}
+
+/// A token of the text as one that waits.
+fn of_source<'t>(token: &Token<'t>) -> HeldRef<'t>
+    ensures { seen_ref result ≡ held_source (seen token.now) }
+{
+    HeldRef {
+        kind: token.kind,
+        spelling: token.spelling,
+        line: token.line,
+        space: token.space,
+        painted: false,
+    }
+}
+
+/// A token that an expansion leaves, as one that waits.
+fn of_held<'t>(held: &'t Held<'_>) -> HeldRef<'t>
+    ensures { seen_ref result ≡ seen_held held.now }
+{
+    HeldRef {
+        kind: held.item.kind,
+        spelling: held.item.spelling.bytes(),
+        line: held.item.line,
+        space: held.item.space,
+        painted: held.painted,
     }
 }
 
@@ -84,20 +113,40 @@ impl Waiting {
         self.parts.is_empty()
     }
 
-    /// Adds more.
-    pub(crate) fn add(&mut self, tokens: &[Token<'_>]) -> Result<(), AllocError>
-        ensures { OnOk result (self.new ≡ self.old ++ map seen tokens.now) }
+    /// Those of a call.
+    pub(crate) fn of_call(alloc: Global, call: &[Held<'_>]) -> Result<Waiting, AllocError>
+        ensures { IfOk result (λ all. all ≡ map seen_held call.now) }
+    {
+        let mut all = Waiting::none(alloc);
+        all.add_held(call)?;
+        Ok(all)
+    }
+
+    /// Adds those of a call.
+    fn add_held(&mut self, tokens: &[Held<'_>]) -> Result<(), AllocError>
+        ensures { OnOk result (self.new ≡ self.old ++ map seen_held tokens.now) }
     {
         self.parts.reserve(tokens.len())?;
         for token in tokens {
-            self.push(token)?;
+            self.push(of_held(token))?;
+        }
+        Ok(())
+    }
+
+    /// Adds some of the text.
+    pub(crate) fn add(&mut self, tokens: &[Token<'_>]) -> Result<(), AllocError>
+        ensures { OnOk result (self.new ≡ self.old ++ map held_source (map seen tokens.now)) }
+    {
+        self.parts.reserve(tokens.len())?;
+        for token in tokens {
+            self.push(of_source(token))?;
         }
         Ok(())
     }
 
     /// Adds one.
-    fn push(&mut self, token: &Token<'_>) -> Result<(), AllocError>
-        ensures { OnOk result (self.new ≡ self.old ++ seen token.now ∷ []) }
+    fn push(&mut self, token: HeldRef<'_>) -> Result<(), AllocError>
+        ensures { OnOk result (self.new ≡ self.old ++ seen_ref token.entry ∷ []) }
     {
         let end = end_after(self.bytes.len(), token.spelling.len())?;
         // Once there is room for the part, no bytes can be there without it.
@@ -105,18 +154,17 @@ impl Waiting {
         self.bytes.extend_from_slice(token.spelling)?;
         self.parts.push_reserved(Part {
             end,
-            first: token.first,
-            last: token.last,
             line: token.line,
             kind: token.kind,
             space: token.space,
+            painted: token.painted,
         });
         Ok(())
     }
 
     /// The tokens.
-    pub(crate) fn tokens(&self) -> Result<Vec<Token<'_>>, AllocError>
-        ensures { IfOk result (λ tokens. map seen tokens.items ≡ self.now) }
+    pub(crate) fn tokens(&self) -> Result<Vec<HeldRef<'_>>, AllocError>
+        ensures { IfOk result (λ tokens. map seen_ref tokens.items ≡ self.now) }
     {
         let mut all = Vec::with_capacity(self.alloc, self.parts.len())?;
         let mut begin = 0;
@@ -128,10 +176,54 @@ impl Waiting {
         Ok(all)
     }
 
-    /// Drops them.
-    pub(crate) fn clear(&mut self)
-        ensures { self.new ≡ [] }
+    /// The line of the first, if there is one.
+    pub(crate) fn first_line(&self) -> Option<u32>
+        ensures { result ≡ first_line_in self.now }
     {
-        *self = Waiting::none(self.alloc);
+        match self.parts.first() {
+            Some(part) => Some(part.line),
+            None => None,
+        }
+    }
+
+    /// The name of the call: the spelling of the first, if there is one.
+    pub(crate) fn name(&self) -> Option<&[u8]>
+        ensures { option_map (λ name. name.now) result ≡ called_name self.now }
+    {
+        match self.parts.first() {
+            Some(part) => Some(&self.bytes[..part.end as usize]),
+            None => None,
+        }
+    }
+}
+
+/// A call that is open where a run of text lines ends, or none.
+#[derive(Drop)]
+pub(crate) struct Open {
+    /// Its tokens.
+    pub(crate) waiting: Waiting,
+    /// How many of its parentheses are open.
+    pub(crate) deep: usize,
+}
+
+impl Open {
+    /// None.
+    pub(crate) fn none(alloc: Global) -> Open
+        ensures waiting { result.waiting ≡ [] }
+        ensures deep { result.deep ≡ 0 }
+    {
+        Open {
+            waiting: Waiting::none(alloc),
+            deep: 0,
+        }
+    }
+
+    /// That of these tokens.
+    pub(crate) fn of_call(alloc: Global, call: &[Held<'_>]) -> Result<Open, AllocError>
+        ensures { IfOk result (λ held. (held.waiting ≡ map seen_held call.now) × (held.deep ≡ open_in_call held.waiting)) }
+    {
+        let deep = open_in_call(call)?;
+        let waiting = Waiting::of_call(alloc, call)?;
+        Ok(Open { waiting, deep })
     }
 }

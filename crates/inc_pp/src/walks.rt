@@ -6,8 +6,7 @@ ghost use Rattle.inc_pp.specs.StateViews.{state_of};
 ghost use Rattle.inc_pp.specs.WalkJobs.{AreSharedIn, first_frame, frames_left, job_in, over_by, walk_left};
 ghost use Rattle.inc_pp.specs.Walks.{held_at, parts_in};
 ghost use Rattle.inc_directive.specs.Parts.{FilePart};
-ghost use Rattle.inc_macro.specs.Tables.{table_of};
-ghost use Rattle.inc_pp.specs.HeldFiles.{IsSkipped};
+ghost use Rattle.inc_pp.specs.HeldFiles.{IsSkipped, NonePoisoned};
 ghost use Rattle.inc_pp.specs.WalkStates.{IsWalk, IsEntering, IsOver, EndsBy};
 ghost use Rattle.inc_pp.specs.Tasks.{begun};
 
@@ -19,7 +18,6 @@ use crate::line_numbers::Here;
 use crate::settings::Settings;
 use crate::states::State;
 use inc_lookup::{DirectiveSet, FileId, Project, Sources};
-use inc_macro::Macros;
 use std::alloc::{AllocError, Global};
 
 /// How deep includes nest at most; the source is at depth 0.
@@ -84,7 +82,7 @@ impl<'j, 'r> Job<'j, 'r> {
         let file = at.file;
         *at_hand = file;
         state.add_read(file)?;
-        if is_skipped(files, file, &state.macros) {
+        if is_skipped(files, file, state) {
             return Ok(());
         }
         if files.get(file).is_some() {
@@ -144,8 +142,7 @@ impl<'j, 'r> Job<'j, 'r> {
         };
         let settings = self.settings;
         if frame.part >= held.count() {
-            let here = &mut frame.here;
-            match state.release(settings, file, here) {
+            match frame.here.release() {
                 Ok(()) => return Ok(()),
                 Err(why) => return Err(why),
             }
@@ -201,13 +198,16 @@ impl<'j, 'r> Job<'j, 'r> {
     }
 }
 
-/// Whether a file is held that changes nothing, since the name of its guard is that of one of these macros.
-fn is_skipped(files: &Files, file: FileId, macros: &Macros) -> bool
+/// Whether a file is held that changes nothing, since the name of its guard is that of a macro, and no name was taken away.
+fn is_skipped(files: &Files, file: FileId, state: &State) -> bool
     ensures { result ≡ true → (ps : List FilePart) × (held_at files.now file ≡ Some ps)
-        × IsSkipped (table_of macros.now) ps }
+        × IsSkipped (state_of state.now).table ps × NonePoisoned (state_of state.now) }
 {
+    if !state.none_poisoned() {
+        return false;
+    }
     match files.get(file) {
-        Some(held) => held.is_guarded(macros),
+        Some(held) => held.is_guarded(&state.macros),
         None => false,
     }
 }

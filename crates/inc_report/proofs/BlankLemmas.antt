@@ -162,8 +162,8 @@ module _ (text : List Change → List ℕ) (q : Question) (l : Limits) (p : Prin
                 headers = t.headers;
                 sources_are = t.sources_are;
                 headers_are = t.headers_are;
-                kept_out = subst (λ (files : Listing). NeverReadAny files q.language q.undefined t.sources t.headers (named_directives layout q.without)) (sym blanked)
-                    (of_names_once (blanked_listing q.language listing (directives_of g set)) q.language q.undefined t.sources t.headers (named_directives layout q.without)
+                kept_out = subst (λ (files : Listing). NeverReadAny q.others files q.language q.undefined t.sources t.headers (named_directives layout q.without)) (sym blanked)
+                    (of_names_once q.others (blanked_listing q.language listing (directives_of g set)) q.language q.undefined t.sources t.headers (named_directives layout q.without)
                     (blanked_cut_keeps_headers_out (setting_in layout q) listing t.sources t.headers g t.graph_is u.0 (fixed_by amounts) set cut.1.cheapest.separates));
                 graph = g;
                 graph_is = t.graph_is;

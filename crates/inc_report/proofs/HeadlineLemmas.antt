@@ -2,6 +2,7 @@
 use Rattle.std.proofs.Common.{◌≡◌, ℕ, Bool, true, false, List, [], ◌∷◌, ◌++◌, Option, Some, None, Result, Ok, Err, inl, inr, refl, sym, ap, ◌∙◌, subst}
 use Rattle.std.specs.Prelude.{not, IsTrue}
 use Rattle.std.specs.List.{list_all}
+use Rattle.inc_graph.specs.declared.building.Source.{Source}
 use Rattle.inc_lookup.specs.declared.projects.DirectiveId.{DirectiveId}
 use Rattle.inc_lookup.specs.Given.{Given}
 use Rattle.inc_lookup.specs.Projects.{Layout, Listing, layout_of, path_at}
@@ -76,11 +77,11 @@ stated_no p is = λ refused. (let same : Negative ≡ Refused = sym is ∙ refus
 -- sources and headers are there, and there is a graph of which this is printed
 pub record IsTold (Then : Answer) (q : Question) (listing : Listing) (p : Printed) : Type 0 where
   -- the places of the sources
-  pub sources : List ℕ
+  pub sources : List Source
   -- those of the headers
   pub headers : List ℕ
   -- the sources are there
-  pub sources_are : sources_at (layout_of listing) q.from q.to ≡ Ok sources
+  pub sources_are : sources_at (layout_of listing) q ≡ Ok sources
   -- the headers are there
   pub headers_are : headers_at (layout_of listing) q.to ≡ Ok headers
   -- the graph
@@ -98,20 +99,20 @@ refusal_of_none layout (graph.FileTooLong file) p stated is = is
 refusal_of_none layout graph.NoMemory p stated is = is
 
 module _ (Then : Answer) (q : Question) (listing : Listing) (p : Printed) (stated : IsStated p) where
-  told_graph : (s t : List ℕ) → sources_at (layout_of listing) q.from q.to ≡ Ok s → headers_at (layout_of listing) q.to ≡ Ok t → (answer : Result Graph GraphRefusal)
+  told_graph : (s : List Source) (t : List ℕ) → sources_at (layout_of listing) q ≡ Ok s → headers_at (layout_of listing) q.to ≡ Ok t → (answer : Result Graph GraphRefusal)
       → IsGraphAnswer (setting_in (layout_of listing) q) listing s t answer → OfGraph (layout_of listing) answer (Then (layout_of listing)) p → IsTold Then q listing p
   told_graph s t s_is t_is (Ok g) is told =
       record { sources = s; headers = t; sources_are = s_is; headers_are = t_is; graph = g; graph_is = is; told = told }
   told_graph s t s_is t_is (Err fault) is told = absurd (refusal_of_none (layout_of listing) fault p stated told)
 
-  told_files : (s t : Result (List ℕ) ℕ) → sources_at (layout_of listing) q.from q.to ≡ s → headers_at (layout_of listing) q.to ≡ t
+  told_files : (s : Result (List Source) ℕ) (t : Result (List ℕ) ℕ) → sources_at (layout_of listing) q ≡ s → headers_at (layout_of listing) q.to ≡ t
       → WithFiles (layout_of listing) q s t (λ a b r. WithGraph q listing a b (Then (layout_of listing)) r) p → IsTold Then q listing p
   told_files (Err i) t s_is t_is is = absurd (never_without_source (layout_of listing) q i p is stated)
   told_files (Ok s) (Err i) s_is t_is is = absurd (never_without_header (layout_of listing) q i p is stated)
   told_files (Ok s) (Ok t) s_is t_is is = told_graph s t s_is t_is is.0 is.1 is.2
 
   pub told_of : IsAnswer Then q listing p → IsTold Then q listing p
-  told_of is = told_files (sources_at (layout_of listing) q.from q.to) (headers_at (layout_of listing) q.to) refl refl is
+  told_of is = told_files (sources_at (layout_of listing) q) (headers_at (layout_of listing) q.to) refl refl is
 
 pub unhindered_told : (layout : Layout) (bs : List Blocker) (fault : Option Refusal) (Told : Printed → Type 0) (p : Printed) → IsStated p → Unhindered layout bs fault Told p → (bs ≡ []) × Told p
 unhindered_told layout (b ∷ bs) fault Told p stated is = absurd (never_blocked layout (b ∷ bs) p is stated)
@@ -124,8 +125,8 @@ holds : (b : Bool) → (IsTrue (not b) → ⊥) → b ≡ true
 holds true never = refl
 holds false never = absurd (never refl)
 
-keeps_out : (q : Question) (l : Limits) (listing : Listing) (sources headers : List ℕ) (g : Graph) (c : Certificate)
-    → sources_at (layout_of listing) q.from q.to ≡ Ok sources → headers_at (layout_of listing) q.to ≡ Ok headers
+keeps_out : (q : Question) (l : Limits) (listing : Listing) (sources : List Source) (headers : List ℕ) (g : Graph) (c : Certificate)
+    → sources_at (layout_of listing) q ≡ Ok sources → headers_at (layout_of listing) q.to ≡ Ok headers
     → IsGraphAnswer (setting_in (layout_of listing) q) listing sources headers (Ok g) → IsKnown (layout_of listing) g → g.blockers ≡ []
     → IsVerdict (layout_of listing) g (fixed_by (amounts_by (layout_of listing) g l.kept l.fixed l.costs)) (costs_by (amounts_by (layout_of listing) g l.kept l.fixed l.costs)) c Yes
     → KeepsHeadersOut q l listing c
@@ -140,8 +141,8 @@ keeps_out q l listing sources headers g c sources_are headers_are answer known c
       headers = headers;
       sources_are = sources_are;
       headers_are = headers_are;
-      kept_out = subst (λ (ds : List DirectiveId). NeverReadAny listing q.language q.undefined sources headers (ds ++ named_directives layout q.without)) (sym same)
-          (of_names_once listing q.language q.undefined sources headers (directives_of g (edge_numbers layout g c.cut) ++ named_directives layout q.without)
+      kept_out = subst (λ (ds : List DirectiveId). NeverReadAny q.others listing q.language q.undefined sources headers (ds ++ named_directives layout q.without)) (sym same)
+          (of_names_once q.others listing q.language q.undefined sources headers (directives_of g (edge_numbers layout g c.cut) ++ named_directives layout q.without)
           (answered_cut_keeps_headers_out (setting_in layout q) listing sources headers g answer clear (fixed_by amounts) (edge_numbers layout g c.cut) certificate.separates));
       graph = g;
       graph_is = answer;

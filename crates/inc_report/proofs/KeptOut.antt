@@ -21,16 +21,18 @@ use Rattle.inc_directive.specs.declared.files.FileFault as declared
 use Rattle.inc_lookup.specs.DirectiveLists.{is_listed}
 use Rattle.inc_lookup.specs.declared.projects.DirectiveId.{DirectiveId}
 use Rattle.inc_lookup.specs.declared.projects.Found.{Found}
-use Rattle.inc_lookup.specs.Projects.{File, Listing, each_once, layout_of, path_at, bytes_at, found_place}
+use Rattle.inc_lookup.specs.Projects.{File, Listing, each_once, path_at, bytes_at, found_place}
 use Rattle.inc_graph.specs.declared.graphs.Blocker.{Blocker}
 use Rattle.inc_graph.specs.declared.graphs.BlockerKind.{BlockerKind}
 use Rattle.inc_graph.specs.declared.graphs.BlockerKind.TheVariants as kind
-use Rattle.inc_graph.specs.Settings.{Setting}
-use Rattle.inc_graph.specs.IncludeGraph.{Edge, Graph, IsClosure, IsReached, Lead, Nowhere, Several, To, as_source, bad_file, blockers_from, directive_count, edges_from, entries_from, entry_blocker, entry_of, file_definitions, found_by, graph_directives, graph_of_files, graph_or_bad, inner_files, is_defined_in, leads, name_entry, text_definitions, undefined_place}
+use Rattle.inc_graph.specs.Settings.{Setting, layouts_of, listing_in}
+use Rattle.inc_graph.specs.declared.building.Source.{Source}
+use Rattle.inc_graph.specs.IncludeGraph.{Edge, Graph, Start, IsClosure, IsReached, Lead, Nowhere, Several, To, as_source, bad_file, blockers_from, directive_count, edges_from, entries_from, entry_blocker, entry_of, file_definitions, found_by, graph_directives, graph_of_files, graph_or_bad, inner_files, is_defined_in, leads, name_entry, text_definitions, undefined_place}
 use Rattle.inc_graph.specs.Chains.{is_walk, leaves, target}
 use Rattle.inc_graph.specs.Members.{is_member}
 use Rattle.inc_graph.specs.Cuts.{Fixed, IsSeparating, directives_of, meets}
-use Rattle.inc_graph.proofs.ClosureLemmas.{reached_push, source_reached}
+use Rattle.inc_graph.proofs.ClosureLemmas.{reached_push, source_reached, start_at}
+use Rattle.inc_graph.proofs.SourceLemmas.{source_among}
 use Rattle.inc_graph.proofs.ClosureWalks.{contains_head, contains_none, some_contains, in_piece, kept, past_none, inner_file, inside_found, answer_is}
 use Rattle.inc_graph.proofs.LeadLemmas.{blocker_there, edge_there}
 use Rattle.inc_graph.proofs.LooplessWalks.{chain_of_walk}
@@ -121,32 +123,32 @@ module _ (setting : Setting) (listing : Listing) (file : ℕ) (ds : List Directi
       subst (λ (r : Result (List Directive) declared.FileFault). Contains (elim (without (is_listed setting.removed file) r) [ Ok directives ↦ directives | Err fault ↦ [] ]) (directive_at (Include by target) line)) (sym are)
       (kept (stays (is_listed setting.removed file)) ds (directive_at (Include by target) line) there (not_from_false (is_listed setting.removed file line) off))
 
-  computed_blocker : (defined : ℕ → Bool) (starts : List (Option ℕ)) (by : IncludeName) (line : ℕ) → Contains ds (directive_at (Include by Computed) line)
+  computed_blocker : (defined : ℕ → Bool) (starts : List Start) (by : IncludeName) (line : ℕ) → Contains ds (directive_at (Include by Computed) line)
       → is_listed setting.removed file line ≡ false → Contains (blockers_from setting listing defined starts file) (blocker_at_line file line kind.Computed)
   computed_blocker defined starts by line there off =
       given (entry_blocker defined file) (entries_from setting listing starts file) _ (blocker_at_line file line kind.Computed)
-      (given (entry_of setting.undefined (layout_of listing) starts file) (graph_directives setting listing file) (directive_at (Include by Computed) line) _ (seen by Computed line there off) refl)
+      (given (entry_of setting.undefined (layouts_of setting listing) starts file) (graph_directives setting listing file) (directive_at (Include by Computed) line) _ (seen by Computed line there off) refl)
       refl
 
   -- an include by a name is one where its entry is
-  named_blocker : (defined : ℕ → Bool) (starts : List (Option ℕ)) (by : IncludeName) (name : List ℕ) (line : ℕ) → Contains ds (directive_at (Include by (ByName name)) line)
+  named_blocker : (defined : ℕ → Bool) (starts : List Start) (by : IncludeName) (name : List ℕ) (line : ℕ) → Contains ds (directive_at (Include by (ByName name)) line)
       → is_listed setting.removed file line ≡ false → entry_blocker defined file (name_entry (undefined_place setting.undefined name) line) ≡ Some (blocker_at_line file line kind.Computed)
       → Contains (blockers_from setting listing defined starts file) (blocker_at_line file line kind.Computed)
   named_blocker defined starts by name line there off stops =
       given (entry_blocker defined file) (entries_from setting listing starts file) (name_entry (undefined_place setting.undefined name) line) (blocker_at_line file line kind.Computed)
-      (given (entry_of setting.undefined (layout_of listing) starts file) (graph_directives setting listing file) (directive_at (Include by (ByName name)) line)
+      (given (entry_of setting.undefined (layouts_of setting listing) starts file) (graph_directives setting listing file) (directive_at (Include by (ByName name)) line)
       (name_entry (undefined_place setting.undefined name) line) (seen by (ByName name) line there off) refl)
       stops
 
   -- so it is where the name has no place among those that no build defines
-  unknown_blocker : (defined : ℕ → Bool) (starts : List (Option ℕ)) (by : IncludeName) (name : List ℕ) (line : ℕ) → Contains ds (directive_at (Include by (ByName name)) line)
+  unknown_blocker : (defined : ℕ → Bool) (starts : List Start) (by : IncludeName) (name : List ℕ) (line : ℕ) → Contains ds (directive_at (Include by (ByName name)) line)
       → is_listed setting.removed file line ≡ false → undefined_place setting.undefined name ≡ None
       → Contains (blockers_from setting listing defined starts file) (blocker_at_line file line kind.Computed)
   unknown_blocker defined starts by name line there off none =
       named_blocker defined starts by name line there off (ap (λ (o : Option ℕ). entry_blocker defined file (name_entry o line)) none)
 
   -- and where a file defines it
-  defined_blocker : (defined : ℕ → Bool) (starts : List (Option ℕ)) (by : IncludeName) (name : List ℕ) (k line : ℕ) → Contains ds (directive_at (Include by (ByName name)) line)
+  defined_blocker : (defined : ℕ → Bool) (starts : List Start) (by : IncludeName) (name : List ℕ) (k line : ℕ) → Contains ds (directive_at (Include by (ByName name)) line)
       → is_listed setting.removed file line ≡ false → undefined_place setting.undefined name ≡ Some k → defined k ≡ true
       → Contains (blockers_from setting listing defined starts file) (blocker_at_line file line kind.Computed)
   defined_blocker defined starts by name k line there off is on =
@@ -187,11 +189,11 @@ is_several Nowhere = inr (λ e. cc)
 is_several (To file) = inr (λ e. cc)
 is_several Several = inl refl
 
-module _ (setting : Setting) (listing : Listing) (sources headers : List ℕ) (starts : ℕ → List (Option ℕ)) (closure : IsClosure setting listing sources headers starts)
+module _ (setting : Setting) (listing : Listing) (sources : List Source) (headers : List ℕ) (starts : ℕ → List Start) (closure : IsClosure setting listing sources headers starts)
     (good : filter_map (bad_file setting listing) (inner_files listing starts headers) ≡ [])
     (clear : flat_map (λ f. blockers_from setting listing (is_defined_in setting listing (inner_files listing starts headers)) (starts f) f) (inner_files listing starts headers) ≡ [])
     (fixed : Fixed) (set : List ℕ) (separates : IsSeparating (graph_of_files setting listing sources headers starts (inner_files listing starts headers)) fixed set)
-    (source : ℕ) (begins : is_member source sources ≡ true) where
+    (source : Source) (begins : Contains sources source) where
   abbrev files : List ℕ
   files = inner_files listing starts headers
 
@@ -215,20 +217,20 @@ module _ (setting : Setting) (listing : Listing) (sources headers : List ℕ) (s
 
   -- a file that is reached as it was found, and to which a walk from the source leads that misses the set
   record IsApart (at : Found) : Type 0 where
-    within : IsReached setting listing sources headers at
+    within : IsReached setting listing sources headers source.path at
     walk : List ℕ
-    real : is_walk graph source walk at.file ≡ true
+    real : is_walk graph source.file walk at.file ≡ true
     apart : (i : ℕ) → is_member i walk ≡ true → is_member i set ≡ false
 
-  source_apart : IsApart (as_source source)
-  source_apart = record { within = source_reached setting listing sources headers source begins; walk = []; real = eq-eqb source source refl; apart = λ i m. absurd (false≢true m) }
+  source_apart : IsApart (as_source source.file)
+  source_apart = record { within = source_reached setting listing sources headers source.path source.file begins; walk = []; real = eq-eqb source.file source.file refl; apart = λ i m. absurd (false≢true m) }
 
   -- no such file is a header
   not_end : (at : Found) → IsApart at → is_member at.file headers ≡ false
   not_end at a =
       elim (cases_Bool (is_member at.file headers)) [
         | inl ends ↦
-            let chain = chain_of_walk graph source at.file a.walk begins ends a.real in
+            let chain = chain_of_walk graph source.file at.file a.walk (source_among sources source.file source.path begins) ends a.real in
             absurd (both_ways (meets chain.0 set) (no_meeting chain.0 set (λ i m. a.apart i (chain.2 i m))) (separates.met chain.0 chain.1))
         | inr other ↦ other
       ]
@@ -237,27 +239,28 @@ module _ (setting : Setting) (listing : Listing) (sources headers : List ℕ) (s
   inner : (at : Found) → IsApart at → at.file < length listing.files → Contains files at.file
   inner at a low =
       inner_file listing starts headers at.file low
-      (inside_found setting listing sources headers starts closure at.file (record { next = at.next; reached = a.within })) (not_end at a)
+      (inside_found setting listing sources headers starts closure at.file (record { start = start_at source.path at; reached = a.within })) (not_end at a)
 
   -- the same of what a directive finds that is not removed
   next_apart : (at b : Found) (d : Directive) → IsApart at → at.file < length listing.files → Contains (graph_directives setting listing at.file) d
-      → found_by (layout_of listing) at d ≡ Some b → is_listed (directives_of graph set) at.file d.line ≡ false → IsApart b
+      → found_by (layouts_of setting listing source.path) at d ≡ Some b → is_listed (directives_of graph set) at.file d.line ≡ false → IsApart b
   next_apart at b d a low there found off =
-      let way : Contains (starts at.file) at.next = (closure at).1 a.within in
-      let one : leads (layout_of listing) (starts at.file) at.file d ≢ Several =
+      let start : Start = start_at source.path at in
+      let way : Contains (starts at.file) start = (closure at.file start).1 a.within in
+      let one : leads (layouts_of setting listing) (starts at.file) at.file d ≢ Several =
       λ several. never_there (flat_map blockers files) (blocker_at_line at.file d.line kind.Several) clear
-      (in_piece blockers files at.file _ (inner at a low) (blocker_there setting listing defined (starts at.file) at.file d at.next b there found several)) in
+      (in_piece blockers files at.file _ (inner at a low) (blocker_there setting listing defined (starts at.file) at.file d start b there found several)) in
       let e : Edge = edge_at at.file b.file d.line in
-      let edge : Contains (edges_from setting listing (starts at.file) at.file) e = edge_there setting listing (starts at.file) at.file d at.next b way there found one in
+      let edge : Contains (edges_from setting listing (starts at.file) at.file) e = edge_there setting listing (starts at.file) at.file d start b way there found one in
       let other : is_member at.file headers ≡ false = not_end at a in
       let place = some_contains graph.edges e (in_piece (λ f. edges_from setting listing (starts f) f) files at.file e (inner at a low) edge) in
       let leaving : leaves graph at.file place.0 ≡ true = ap (λ (o : Option Edge). option_map_or (λ (x : Edge). x.from == at.file) o false) place.1 ∙ eq-eqb at.file at.file refl in
       let to : target graph place.0 ≡ b.file = ap (λ (o : Option Edge). option_map_or (λ (x : Edge). x.to) o 0) place.1 in
       let not_cut : is_member place.0 set ≡ false = not_in_set e place.0 place.1 off in
       record {
-        within = reached_push setting listing sources headers at b a.within (record { directive = d; there = there; leads = found; before = other });
+        within = reached_push setting listing sources headers source.path at b a.within (record { directive = d; there = there; leads = found; before = other });
         walk = a.walk ++ place.0 ∷ [];
-        real = ap (λ (x : ℕ). is_walk graph source (a.walk ++ place.0 ∷ []) x) (sym to) ∙ walk_push graph source a.walk at.file place.0 a.real leaving;
+        real = ap (λ (x : ℕ). is_walk graph source.file (a.walk ++ place.0 ∷ []) x) (sym to) ∙ walk_push graph source.file a.walk at.file place.0 a.real leaving;
         apart = λ i m. elim (member_push_cases i place.0 a.walk m) [ inl before ↦ a.apart i before | inr last ↦ ap (λ (k : ℕ). is_member k set) (sym last) ∙ not_cut ];
       }
     where
@@ -271,14 +274,14 @@ module _ (setting : Setting) (listing : Listing) (sources headers : List ℕ) (s
   ---- the lines of such a file
 
   abbrev KindLeads : Found → LineKind → List Tok → Type 0
-  KindLeads at k ts = LeadsNear IsApart Absent (λ by form name. found_place (layout_of listing) (path_at (layout_of listing) at.file) form (search_after by at.next) name) k ts
+  KindLeads at k ts = LeadsNear IsApart Absent (λ by form name. found_place (layouts_of setting listing source.path) (path_at (layouts_of setting listing source.path) at.file) form (search_after by at.next) name) k ts
 
   abbrev LineLeads : Found → FileLine → Type 0
   LineLeads at l = KindLeads at l.kind l.tokens
 
   module _ (at : Found) (a : IsApart at) (low : at.file < length listing.files) where
     found_apart : (d : Directive) → Contains (graph_directives setting listing at.file) d → is_listed (directives_of graph set) at.file d.line ≡ false
-        → (o : Option Found) → found_by (layout_of listing) at d ≡ o → IfSome o IsApart
+        → (o : Option Found) → found_by (layouts_of setting listing source.path) at d ≡ o → IfSome o IsApart
     found_apart d there off None is = tt
     found_apart d there off (Some b) is = next_apart at b d a low there is off
 
@@ -370,11 +373,11 @@ module _ (setting : Setting) (listing : Listing) (sources headers : List ℕ) (s
         none_defined setting.undefined name absent.0 table absent.1 none (ap (λ (a : List ℕ → List (Option Definition)). a name) aside)
     words_define_none (Err fault) none aside = tt
 
-    keeps_out : NeverReads listing setting.language setting.undefined source header cut
+    keeps_out : NeverReads (listing_in setting.others listing source.path) setting.language setting.undefined source.file header cut
     keeps_out words settings outcome same none is =
         not_from_false (is_member header outcome.reads)
         (absent outcome.reads
-        (near_reads IsApart Absent listing source words settings cut outcome source_apart
+        (near_reads IsApart Absent (listing_in setting.others listing source.path) source.file words settings cut outcome source_apart
         (λ at a tree t. lines_lead at a tree (ap (λ (language : Language). tree_of language listing cut at.file) (sym same) ∙ t))
         (words_define_none (with_words 0 words (no_macros settings.language))
         (subst (λ (language : Language). DefineNone language words setting.undefined) (sym same) none) (words_same 0 words (no_macros settings.language))) is))
@@ -391,7 +394,7 @@ no_bad (bad ∷ more) count h g is = cc
 
 pub answered_cut_keeps_headers_out : AnsweredCutKeepsHeadersOut
 answered_cut_keeps_headers_out setting listing sources headers g answer clear fixed set separates =
-    let starts : ℕ → List (Option ℕ) = answer.0 in
+    let starts : ℕ → List Start = answer.0 in
     let files : List ℕ = inner_files listing starts headers in
     let bads = filter_map (bad_file setting listing) files in
     let h : Graph = graph_of_files setting listing sources headers starts files in
@@ -412,7 +415,7 @@ once_define_none language words names none = by (with_words 0 words (no_macros l
     by (Err fault) h = tt
 
 -- what holds of names of which each is there once holds of the names
-pub of_names_once : (listing : Listing) (language : Language) (names : List (List ℕ)) (sources headers : List ℕ) (removed : List DirectiveId)
-    → NeverReadAny listing language (each_once names) sources headers removed → NeverReadAny listing language names sources headers removed
-of_names_once listing language names sources headers removed never source header begins ends words settings outcome same none is =
+pub of_names_once : (others : List (List (List ℕ))) (listing : Listing) (language : Language) (names : List (List ℕ)) (sources : List Source) (headers : List ℕ) (removed : List DirectiveId)
+    → NeverReadAny others listing language (each_once names) sources headers removed → NeverReadAny others listing language names sources headers removed
+of_names_once others listing language names sources headers removed never source header begins ends words settings outcome same none is =
     never source header begins ends words settings outcome same (once_define_none language words names none) is

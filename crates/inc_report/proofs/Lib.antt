@@ -18,6 +18,7 @@ pub mod PpSections
 pub mod RuleLemmas
 pub mod NameOrder
 pub mod NameLemmas
+pub mod SourcePaths
 pub mod QuestionLemmas
 pub mod KeptLines
 pub mod ReadWalks

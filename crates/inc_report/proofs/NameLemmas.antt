@@ -108,7 +108,7 @@ module _ {X : Type 0} (f : X → List ℕ) (layout : Layout) (xs : List X) (i : 
 
 ---- the files that have a flag
 
-range_more : (a n : ℕ) → range_with_len a (n + 1) ≡ range_with_len a n ++ (a + n) ∷ []
+pub range_more : (a n : ℕ) → range_with_len a (n + 1) ≡ range_with_len a n ++ (a + n) ∷ []
 range_more a zero = ap (λ (x : ℕ). x ∷ []) (omega arith)
 range_more a (suc n) =
     let next : suc n + 1 ≡ suc (n + 1) = omega arith in

@@ -5,6 +5,7 @@ use Rattle.std.specs.List.{All, list_any}
 use Rattle.std.proofs.lemmas.Bool.{eqb-false, or_parts}
 use Rattle.std.proofs.lemmas.List.{get_or_default, length-replicate}
 use Rattle.std.proofs.lemmas.List.Elements.{All-head, All-tail, All-cons, All-nil}
+use Rattle.inc_graph.specs.declared.building.Source.{Source}
 use Rattle.inc_text.specs.declared.devices.ReadFault.{ReadFault}
 use Rattle.inc_text.specs.declared.languages.Language.{Language}
 use Rattle.inc_directive.specs.LineKinds.{LineKind}
@@ -294,7 +295,7 @@ module _ {S : Type 0} (gives : S → ℕ → Result (List ℕ) ReadFault → S �
 
   -- no graph of these files has the file where it is empty
   abbrev IsNeeded : ℕ → Type 0
-  IsNeeded file = (listing : Listing) (sources headers : List ℕ) → IsGraphAnswer (setting_in (layout_of listing) q) listing sources headers (Ok graph) → bytes_at listing file ≡ [] → ⊥
+  IsNeeded file = (listing : Listing) (sources : List Source) (headers : List ℕ) → IsGraphAnswer (setting_in (layout_of listing) q) listing sources headers (Ok graph) → bytes_at listing file ≡ [] → ⊥
 
   unread_never : (file : ℕ) → IsNeeded file → file < length layout.paths → list_any (λ (g : Given). g.file == file) holds.given ≡ false → ⊥
   unread_never file needed within unread =
@@ -392,7 +393,7 @@ module _ (form : NamedForm) (q : Question) (l : Limits) (p : Printed) (given : L
       set = set;
       chains = chains;
       printed = ap (λ (r : Printed). r.text) (same ∙ is);
-      kept_out = of_names_once listing q.language q.undefined t.sources t.headers (directives_of t.graph set ++ named_directives layout q.without)
+      kept_out = of_names_once q.others listing q.language q.undefined t.sources t.headers (directives_of t.graph set ++ named_directives layout q.without)
           (answered_cut_keeps_headers_out (setting_in layout q) listing t.sources t.headers t.graph t.graph_is none (fixed_by amounts) set cut.nearest.cheapest.separates);
       cheapest = cut;
     }

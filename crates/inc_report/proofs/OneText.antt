@@ -1,5 +1,6 @@
 -- The definitions of what `why`, `who` and `graph` print leave one text.
 use Rattle.std.proofs.Common.{◌≡◌, ℕ, Bool, List, Option, Result, Ok, Err, sym, ap, ◌∙◌, subst}
+use Rattle.inc_graph.specs.declared.building.Source.{Source}
 use Rattle.inc_report.specs.Terms.{Question, setting_in}
 use Rattle.inc_lookup.specs.Projects.{Layout, Listing, layout_of}
 use Rattle.inc_graph.specs.IncludeGraph.{Graph}
@@ -34,14 +35,14 @@ pub one_of_graph : (layout : Layout) (Then : Graph → Printed → Type 0) → (
 one_of_graph layout Then one (Ok g) p q h k = one g p q h k
 one_of_graph layout Then one (Err fault) p q h k = one_refusal layout fault p q h k
 
-pub one_with_graph : (q : Question) (listing : Listing) (sources headers : List ℕ) (Then : Graph → Printed → Type 0) → ((g : Graph) (p q : Printed) → Then g p → Then g q → p ≡ q)
+pub one_with_graph : (q : Question) (listing : Listing) (sources : List Source) (headers : List ℕ) (Then : Graph → Printed → Type 0) → ((g : Graph) (p q : Printed) → Then g p → Then g q → p ≡ q)
     → (a b : Printed) → WithGraph q listing sources headers Then a → WithGraph q listing sources headers Then b → a ≡ b
 one_with_graph q listing sources headers Then one a b h k =
     let same : h.0 ≡ k.0 = one_graph (setting_in (layout_of listing) q) listing sources headers h.0 k.0 h.1 k.1 in
     one_of_graph (layout_of listing) Then one k.0 a b (subst (λ (answer : Result Graph GraphRefusal). OfGraph (layout_of listing) answer Then a) same h.2) k.2
 
 -- where sources and headers leave one text, so do they and the refusals in their place
-pub one_with_files : (layout : Layout) (q : Question) (sources headers : Result (List ℕ) ℕ) (Then : List ℕ → List ℕ → Printed → Type 0) → ((s t : List ℕ) (p q : Printed) → Then s t p → Then s t q → p ≡ q)
+pub one_with_files : (layout : Layout) (q : Question) (sources : Result (List Source) ℕ) (headers : Result (List ℕ) ℕ) (Then : List Source → List ℕ → Printed → Type 0) → ((s : List Source) (t : List ℕ) (p q : Printed) → Then s t p → Then s t q → p ≡ q)
     → (a b : Printed) → WithFiles layout q sources headers Then a → WithFiles layout q sources headers Then b → a ≡ b
 one_with_files layout q (Err i) headers Then one a b h k = h ∙ sym k
 one_with_files layout q (Ok s) (Err i) Then one a b h k = h ∙ sym k
@@ -49,7 +50,7 @@ one_with_files layout q (Ok s) (Ok t) Then one a b h k = one s t a b h k
 
 pub one_why : (most : Option ℕ) (q : Question) (listing : Listing) (a b : Printed) → IsWhy most q listing a → IsWhy most q listing b → a ≡ b
 one_why most q listing a b h k =
-    one_with_files (layout_of listing) q (sources_at (layout_of listing) q.from q.to) (headers_at (layout_of listing) q.to)
+    one_with_files (layout_of listing) q (sources_at (layout_of listing) q) (headers_at (layout_of listing) q.to)
     (λ s t r. WithGraph q listing s t (IsWhyOf most (layout_of listing)) r)
     (λ s t p2 q2 h2 k2. one_with_graph q listing s t (IsWhyOf most (layout_of listing))
     (λ g p3 q3 h3 k3. one_why_of most (layout_of listing) g p3 q3 h3 k3) p2 q2 h2 k2)
@@ -64,7 +65,7 @@ one_who_of with_chains most layout g p q h k =
 
 pub one_who : (with_chains : Bool) (most : Option ℕ) (q : Question) (listing : Listing) (a b : Printed) → IsWho with_chains most q listing a → IsWho with_chains most q listing b → a ≡ b
 one_who with_chains most q listing a b h k =
-    one_with_files (layout_of listing) q (sources_at (layout_of listing) q.from q.to) (headers_at (layout_of listing) q.to)
+    one_with_files (layout_of listing) q (sources_at (layout_of listing) q) (headers_at (layout_of listing) q.to)
     (λ s t r. WithGraph q listing s t (IsWhoOf with_chains most (layout_of listing)) r)
     (λ s t p2 q2 h2 k2. one_with_graph q listing s t (IsWhoOf with_chains most (layout_of listing))
     (λ g p3 q3 h3 k3. one_who_of with_chains most (layout_of listing) g p3 q3 h3 k3) p2 q2 h2 k2)
@@ -72,7 +73,7 @@ one_who with_chains most q listing a b h k =
 
 pub one_edges : (q : Question) (listing : Listing) (a b : Printed) → IsGraph q listing a → IsGraph q listing b → a ≡ b
 one_edges q listing a b h k =
-    one_with_files (layout_of listing) q (sources_at (layout_of listing) q.from q.to) (headers_at (layout_of listing) q.to)
+    one_with_files (layout_of listing) q (sources_at (layout_of listing) q) (headers_at (layout_of listing) q.to)
     (λ s t r. WithGraph q listing s t (IsGraphOf (layout_of listing)) r)
     (λ s t p2 q2 h2 k2. one_with_graph q listing s t (IsGraphOf (layout_of listing)) (λ g p3 q3 h3 k3. h3 ∙ sym k3) p2 q2 h2 k2)
     a b h k

@@ -1,6 +1,7 @@
 -- What is printed of a question, by what is printed of its graph.
 use Rattle.std.proofs.Common.{◌≡◌, ℕ, length, List, [], Result, Ok, Err, refl, sym, subst, ap, ◌∙◌}
 use Rattle.std.specs.Prelude.{filter_map}
+use Rattle.inc_graph.specs.declared.building.Source.{Source}
 use Rattle.inc_text.specs.declared.devices.ReadFault.{ReadFault}
 use Rattle.inc_graph.specs.Settings.{Setting}
 use Rattle.inc_report.specs.Terms.{Question, setting_in}
@@ -18,7 +19,7 @@ use Rattle.inc_report.specs.declared.questions.NoGraph.{NoGraph}
 use Rattle.inc_report.specs.declared.questions.NoGraph.TheVariants as no_graph
 use Rattle.inc_report.proofs.WritingLemmas.{nothing_given}
 
-with_files_all : (layout : Layout) (q : Question) (sources headers : Result (List ℕ) ℕ) (A B : List ℕ → List ℕ → Printed → Type 0) (p : Printed) → ((s t : List ℕ) → A s t p → B s t p)
+with_files_all : (layout : Layout) (q : Question) (sources : Result (List Source) ℕ) (headers : Result (List ℕ) ℕ) (A B : List Source → List ℕ → Printed → Type 0) (p : Printed) → ((s : List Source) (t : List ℕ) → A s t p → B s t p)
     → WithFiles layout q sources headers A p → WithFiles layout q sources headers B p
 with_files_all layout q (Err i) headers A B p step is = is
 with_files_all layout q (Ok s) (Err i) A B p step is = is
@@ -32,7 +33,7 @@ of_graph_all layout (Err fault) A B p step is = is
 pub answer_all : (A B : Answer) (q : Question) (listing : Listing) (p : Printed)
     → ((g : Graph) → A (layout_of listing) g p → B (layout_of listing) g p) → IsAnswer A q listing p → IsAnswer B q listing p
 answer_all A B q listing p step is =
-    with_files_all (layout_of listing) q (sources_at (layout_of listing) q.from q.to) (headers_at (layout_of listing) q.to) _ _ p
+    with_files_all (layout_of listing) q (sources_at (layout_of listing) q) (headers_at (layout_of listing) q.to) _ _ p
     (λ s t told. (told.0, told.1, of_graph_all (layout_of listing) told.0 (A (layout_of listing)) (B (layout_of listing)) p step told.2)) is
 
 module _ {S : Type 0} (gives : S → ℕ → Result (List ℕ) ReadFault → S → Type 0) (old new : S) (layout : Layout) (Then : Answer) (q : Question) (p : Printed) where
@@ -54,19 +55,19 @@ module _ {S : Type 0} (gives : S → ℕ → Result (List ℕ) ReadFault → S �
       given_all holds (λ given listing laid is. (answer_all (λ l g r. ⊥) Then q listing p (λ g none. absurd none) is.0, is.1))
 
 module _ (q : Question) (layout : Layout) (p : Printed) (listing : Listing) (laid : layout_of listing ≡ layout) (Then : Answer) where
-  found : (r : Result (List ℕ) ℕ) → sources_at layout q.from q.to ≡ r → sources_at (layout_of listing) q.from q.to ≡ r
-  found r is = ap (λ (l : Layout). sources_at l q.from q.to) laid ∙ is
+  found : (r : Result (List Source) ℕ) → sources_at layout q ≡ r → sources_at (layout_of listing) q ≡ r
+  found r is = ap (λ (l : Layout). sources_at l q) laid ∙ is
 
   found_headers : (r : Result (List ℕ) ℕ) → headers_at layout q.to ≡ r → headers_at (layout_of listing) q.to ≡ r
   found_headers r is = ap (λ (l : Layout). headers_at l q.to) laid ∙ is
 
-  pub without_source : (i : ℕ) → sources_at layout q.from q.to ≡ Err i → p ≡ no_source layout q i → IsAnswerBy Then q p [] listing
+  pub without_source : (i : ℕ) → sources_at layout q ≡ Err i → p ≡ no_source layout q i → IsAnswerBy Then q p [] listing
   without_source i none is = rw (found (Err i) none) (is ∙ ap (λ (l : Layout). no_source l q i) (sym laid), refl)
 
-  pub without_header : (s : List ℕ) (i : ℕ) → sources_at layout q.from q.to ≡ Ok s → headers_at layout q.to ≡ Err i → p ≡ no_header layout q i → IsAnswerBy Then q p [] listing
+  pub without_header : (s : List Source) (i : ℕ) → sources_at layout q ≡ Ok s → headers_at layout q.to ≡ Err i → p ≡ no_header layout q i → IsAnswerBy Then q p [] listing
   without_header s i there none is = rw (found (Ok s) there, found_headers (Err i) none) (is ∙ ap (λ (l : Layout). no_header l q i) (sym laid), refl)
 
-  pub of_files : (given : List Given) (s t : List ℕ) (answer : Result Graph GraphRefusal) → sources_at layout q.from q.to ≡ Ok s → headers_at layout q.to ≡ Ok t
+  pub of_files : (given : List Given) (s : List Source) (t : List ℕ) (answer : Result Graph GraphRefusal) → sources_at layout q ≡ Ok s → headers_at layout q.to ≡ Ok t
       → IsGraphAnswer (setting_in layout q) listing s t answer → OfGraph layout answer (Then layout) p → IsOfClosure (setting_in layout q) s t given listing
       → IsAnswerBy Then q p given listing
   of_files given s t answer there at is told read =
@@ -90,7 +91,7 @@ stopped_early gives s layout q (no_graph.Refused fault) p Then memory is = absur
 
 ---- the graph has the files of its project
 
-pub files_of_graph : {S : Type 0} (gives : S → ℕ → Result (List ℕ) ReadFault → S → Type 0) (old new : S) (layout : Layout) (setting : Setting) (sources headers : List ℕ) (g : Graph)
+pub files_of_graph : {S : Type 0} (gives : S → ℕ → Result (List ℕ) ReadFault → S → Type 0) (old new : S) (layout : Layout) (setting : Setting) (sources : List Source) (headers : List ℕ) (g : Graph)
     → HoldsOfGiven gives old new layout (λ given listing. IsGraphAnswer setting listing sources headers (Ok g) × IsOfClosure setting sources headers given listing)
     → g.files ≡ length layout.paths
 files_of_graph gives old new layout setting sources headers g h =

@@ -1,6 +1,7 @@
 -- Where each include line of a near file leads to a near file, or begins with a name that no line of a near file defines, a preprocessing
 -- that begins near reads near files alone. A file is near by how it was found.
-use Rattle.std.proofs.Common.{◌≡◌, ◌≢◌, refl, sym, ◌∙◌, ℕ, zero, suc, Bool, true, false, cond, List, [], ◌∷◌, ◌++◌, Option, Some, None, Result, Ok, Err, IfOk, length, drop, nat_lt}
+use Rattle.std.proofs.Common.{◌≡◌, ◌≢◌, refl, sym, ◌∙◌, ℕ, zero, suc, Bool, true, false, cond, List, [], ◌∷◌, ◌++◌, Option, Some, None, Result, Ok, Err, IfOk, length, drop, map, nat_lt, ◌&&◌}
+use Rattle.std.specs.List.{list_all}
 use Rattle.std.specs.Prelude.{IfSome, nat_le, option_map, codes, ok_or}
 use Rattle.std.proofs.lemmas.Result.{IfOk-at_ok}
 use Rattle.inc_directive.specs.Groups.{FileLine, Group, Branches, Empty, Run, Control, Section, Branch, Otherwise, Close, lines_of, lines_of_branches}
@@ -17,24 +18,30 @@ use Rattle.inc_lookup.specs.declared.projects.Found.{Found}
 use Rattle.inc_lookup.specs.Projects.{Listing, found_place, layout_of, path_at}
 use Rattle.inc_macro.specs.Macros.{Table, define, no_macros, undef, with_words, is_spelled, pop_macro, push_macro}
 use Rattle.inc_macro.specs.Results.{◌>>=◌}
-use Rattle.inc_macro.proofs.UndefinedNames.{IsAbsent, define_absent, first_spelling, pop_absent, push_absent, undef_absent}
-use Rattle.inc_expand.specs.Expansion.{Item}
+use Rattle.inc_macro.proofs.UndefinedNames.{IsAbsent, define_absent, first_spelling, none_absent, pop_absent, push_absent, undef_absent}
+use Rattle.inc_text.specs.declared.languages.Language.{Language}
+use Rattle.inc_text.specs.Languages.{is_gnu}
+use Rattle.inc_expand.specs.declared.faults.ExpandFault.TheVariants.{UnclosedCall}
+use Rattle.inc_expand.specs.declared.places.Mode.TheVariants.{Plain}
+use Rattle.inc_expand.specs.Expansion.{Item, Meter}
+use Rattle.inc_expand.specs.Openings.{Held as HeldToken, held_source, opening}
 use Rattle.inc_pp.specs.declared.causes.Cause.{Cause}
-use Rattle.inc_pp.specs.declared.causes.Cause.TheVariants.{TooDeep, TooManyReads}
+use Rattle.inc_pp.specs.declared.causes.Cause.TheVariants.{Expand, TooDeep, TooManyReads}
 use Rattle.inc_pp.specs.declared.causes.Cause.TheVariants as cause
 use Rattle.inc_pp.specs.declared.settings.Missing.{Missing}
 use Rattle.inc_pp.specs.declared.settings.Missing.TheVariants as missing
-use Rattle.inc_pp.specs.Directives.{after_pragma, line_operands, names_once, changed, control_of, with_table}
+use Rattle.inc_pp.specs.Directives.{after_pragma, line_operands, names_once, changed, control_of, ends_call, released_for, with_table}
 use Rattle.inc_pp.specs.Files.{FileFault, tree_of}
 use Rattle.inc_pp.specs.Includes.{Header, after_found, found_from, header_of, is_done, is_import, not_found, wanted, led_to, entered, include_target, included}
 use Rattle.inc_pp.specs.Preprocessing.{Outcome, group_read, section_read, tree_read, file_read, reading, most_depth, named_settings, outcome_of, with_read, preprocessing}
-use Rattle.inc_pp.specs.Pragmas.{is_stacking, restacked, stacked, stacked_name}
-use Rattle.inc_pp.specs.OpenCalls.{open_in}
-use Rattle.inc_pp.specs.Runs.{expanded, run_put, run_read, text_read, tokens_read, waiting_read, with_waiting}
+use Rattle.inc_pp.specs.Pragmas.{Laid, is_stacking, laid, restacked, stacked, stacked_name}
+use Rattle.inc_pp.specs.OpenCalls.{called_name, first_line_in, open_behind, spellings}
+use Rattle.inc_pp.specs.Poison.{asked, asked_directive, is_poisonable, line_asked, names_poison, poison, poison_all, poisoned_by}
+use Rattle.inc_pp.specs.Runs.{closed_or, expanded, is_unclosed, line_of_run, marks_in, put_laid, released_at, run_expanded, run_given, run_opened, run_read, text_read, tokens_read, with_meter, with_waiting}
 use Rattle.inc_pp.specs.Sections.{condition_of, operands}
 use Rattle.inc_pp.specs.Settings.{Settings}
 use Rattle.inc_pp.specs.Entries.{FileToRead}
-use Rattle.inc_pp.specs.Tasks.{Task, State, Here, Halt, Deeper, File, caused, layout_in, start, source_at, begun, halting}
+use Rattle.inc_pp.specs.Tasks.{Task, State, Here, Halt, Deeper, File, caused, layout_in, place_of, start, source_at, begun, halting}
 use Rattle.inc_pp.proofs.NamedIncludes.{BeginsWith, no_header_by_name}
 use Rattle.inc_report.proofs.KeptLines.{Each, each_before, each_behind, each_push}
 
@@ -49,6 +56,10 @@ keeps_ok h = record { value = h }
 
 keeps_err : {A E : Type 0} {Q : A → Type 0} {e : E} → Keeps Q (Err e)
 keeps_err = record { value = tt }
+
+keeps_any : {A E : Type 0} (r : Result A E) → Keeps (λ (x : A). Unit {0}) r
+keeps_any (Ok x) = record { value = tt }
+keeps_any (Err e) = record { value = tt }
 
 keeps_after : {A B E : Type 0} {R : B → Type 0} (r : Result A E) {k : A → Result B E} → ((x : A) → Keeps R (k x)) → Keeps R (r >>= k)
 keeps_after (Ok x) more = more x
@@ -128,11 +139,46 @@ module _ (Near : Found → Type 0) (Absent : List ℕ → Type 0) where
   expanded_near : (f : File) (h : Here) (s : State) (ts : List Tok) → IsNear s → Keeps (IsNearAfter (List Item)) (expanded f h s ts)
   expanded_near f h s ts n = keeps_after _ (λ x. keeps_ok n)
 
-  put_near : (f : File) (h : Here) (s : State) (ts : List Tok) → IsNear s → Keeps IsNear (run_put f h s ts)
+  -- the state after a run, and the call that waits
+  abbrev IsNearGiven : State × List HeldToken → Type 0
+  IsNearGiven r = IsNear r.0
+
+  put_near : (f : File) (h : Here) (s : State) (ts : List Tok) → IsNear s → Keeps IsNear (run_expanded f h s ts)
   put_near f h s ts n = keeps_then (expanded_near f h s ts n) (λ r k. keeps_after _ (λ l. keeps_ok k))
 
+  laid_near : (file : ℕ) (s : State) (call : List HeldToken) (meter : Meter) (r : Result Laid Cause) → IsNear s → Keeps IsNearGiven (r >>= λ l. Ok (put_laid file l (with_meter meter s), call))
+  laid_near file s call meter (Ok l) n = keeps_ok n
+  laid_near file s call meter (Err c) n = keeps_err
+
+  items_near : (f : File) (h : Here) (s : State) (r : Result (List Item × List HeldToken × Meter) Cause) → IsNear s
+      → Keeps IsNearGiven (r >>= λ x. laid s.table.language (marks_in f h) None x.0 >>= λ l. Ok (put_laid f.index l (with_meter x.2 s), x.1))
+  items_near f h s (Ok x) n = laid_near f.index s x.1 x.2 (laid s.table.language (marks_in f h) None x.0) n
+  items_near f h s (Err c) n = keeps_err
+
+  opened_near : (f : File) (h : Here) (s : State) (ts : List Tok) → IsNear s → Keeps IsNearGiven (run_opened f h s ts)
+  opened_near f h s ts n = items_near f h s (caused Expand (opening (record { table = s.table; mode = Plain; place = place_of f h }) s.meter h.waiting ts)) n
+
+  closed_near : (language : Language) (r : Result State Cause) (opened : Result (State × List HeldToken) Cause) → Keeps IsNear r → Keeps IsNearGiven opened → Keeps IsNearGiven (closed_or language r opened)
+  closed_near language (Ok t) opened n k = keeps_ok n.value
+  closed_near language (Err c) opened n k = by (is_gnu language && is_unclosed c)
+    where
+      by : (b : Bool) → Keeps IsNearGiven (cond {A = Result (State × List HeldToken) Cause} b opened (Err c))
+      by true = k
+      by false = keeps_err
+
+  given_near : (f : File) (h : Here) (s : State) (ts : List Tok) → IsNear s → Keeps IsNearGiven (run_given f h s ts)
+  given_near f h s ts n = by h.waiting (closed_near s.table.language (run_expanded f h s ts) (run_opened f h s ts) (put_near f h s ts n) (opened_near f h s ts n)) (opened_near f h s ts n)
+    where
+      by : (hs : List HeldToken) → Keeps IsNearGiven (closed_or s.table.language (run_expanded f h s ts) (run_opened f h s ts)) → Keeps IsNearGiven (run_opened f h s ts)
+          → Keeps IsNearGiven (elim hs as (λ _. Result (State × List HeldToken) Cause) [ [] ↦ closed_or s.table.language (run_expanded f h s ts) (run_opened f h s ts) | name ∷ more ↦ run_opened f h s ts ])
+      by [] c o = c
+      by (name ∷ more) c o = o
+
+  line_near : (f : File) (l : FileLine) (s : State) → IsNear s → Holds (λ (ts : List Tok). Unit {0}) IsNear (line_asked f l s)
+  line_near f l s n = holds_halting f (line_of_tokens l.tokens) s (asked_directive s l.tokens) n (keeps_any (asked_directive s l.tokens))
+
   tokens_near : (f : File) (ts : List Tok) (s : State) (h : Here) → IsNear s → Holds IsNearHere IsNear (tokens_read f ts s h)
-  tokens_near f ts s h n = holds_then (holds_halting f (line_of_tokens ts) s (run_put f h s ts) n (put_near f h s ts n)) (λ t k. holds_ok k)
+  tokens_near f ts s h n = holds_then (holds_halting f (line_of_run h.waiting ts) s (run_given f h s ts) n (given_near f h s ts n)) (λ t k. holds_ok k)
 
   wait_near : (b : Bool) (x : State × Here) (r : Result (State × Here) Halt) → IsNearHere x → Holds IsNearHere IsNear r
       → Holds IsNearHere IsNear (elim b as (λ _. Result (State × Here) Halt) [ true ↦ Ok x | false ↦ r ])
@@ -142,15 +188,23 @@ module _ (Near : Found → Type 0) (Absent : List ℕ → Type 0) where
   text_near : (f : File) (ts : List Tok) (s : State) (h : Here) → IsNear s → Holds IsNearHere IsNear (text_read f ts s h)
   text_near f [] s h n = holds_ok n
   text_near f (t ∷ ts) s h n =
-      wait_near (nat_lt 0 (open_in s.table h.deep (t ∷ ts))) (s, with_waiting (h.waiting ++ t ∷ ts) (open_in s.table h.deep (t ∷ ts)) h)
-      (tokens_read f (h.waiting ++ t ∷ ts) s h) n (tokens_near f (h.waiting ++ t ∷ ts) s h n)
+      holds_then (holds_halting f (line_of_tokens (t ∷ ts)) s (asked s.poisoned (t ∷ ts)) n (keeps_any (asked s.poisoned (t ∷ ts))))
+      (λ _ k. wait_near (nat_lt 0 (open_behind h.deep (spellings (t ∷ ts)))) (s, with_waiting (h.waiting ++ map held_source (t ∷ ts)) (open_behind h.deep (spellings (t ∷ ts))) h)
+      (tokens_read f (t ∷ ts) s h) n (tokens_near f (t ∷ ts) s h n))
 
   run_near : (f : File) (ls : List FileLine) (s : State) (h : Here) → IsNear s → Holds IsNearHere IsNear (run_read f ls s h)
   run_near f ls s h n = text_near f (run_tokens ls) s h n
 
-  waiting_near : (f : File) (ts : List Tok) (s : State) (h : Here) → IsNear s → Holds IsNearHere IsNear (waiting_read f ts s h)
-  waiting_near f [] s h n = holds_ok n
-  waiting_near f (t ∷ ts) s h n = tokens_near f (t ∷ ts) s h n
+  waiting_near : (f : File) (line : Option ℕ) (s : State) (h : Here) → IsNear s → Holds IsNearHere IsNear (released_at f line s h)
+  waiting_near f None s h n = holds_ok n
+  waiting_near f (Some line) s h n = holds_halting f line s (Err (Expand UnclosedCall)) n keeps_err
+
+  before_near : (l : FileLine) (f : File) (s : State) (h : Here) → IsNear s → Holds IsNearHere IsNear (released_for l f s h)
+  before_near l f s h n = by (ends_call l.kind s.table.language (called_name h.waiting) (operands l))
+    where
+      by : (b : Bool) → Holds IsNearHere IsNear (cond {A = Result (State × Here) Halt} b (released_at f (first_line_in h.waiting) s h) (Ok (s, h)))
+      by true = waiting_near f (first_line_in h.waiting) s h n
+      by false = holds_ok n
 
   condition_near : (kind : LineKind) (f : File) (l : FileLine) (s : State) (h : Here) → IsNear s → Keeps (IsNearAfter Bool) (condition_of kind f l s h)
   condition_near (Other Ifdef) f l s h n = keeps_after _ (λ x. keeps_ok n)
@@ -197,15 +251,29 @@ module _ (Near : Found → Type 0) (Absent : List ℕ → Type 0) where
       by (Some other) = keeps_ok (stacked_absent t other table absent)
       by None = keeps_err
 
-  pragma_kept : (a b : Bool) (s t : State) (r : Result State Cause) → IsNear s → Keeps IsNear r → IsNear t → Keeps IsNear (cond a (Ok s) (cond b r (Ok t)))
-  pragma_kept true b s t r n k m = keeps_ok n
-  pragma_kept false true s t r n k m = k
-  pragma_kept false false s t r n k m = keeps_ok m
+  poison_near : (ts : List Tok) (s : State) → IsNear s → IsNear (poison_all ts s)
+  poison_near [] s n = n
+  poison_near (t ∷ ts) s n = poison_near ts (poison t.spelling s) (n.0, λ name a. none_absent t.spelling name s.table (n.1 name a))
+
+  poisoned_near : (ts : List Tok) (s : State) → IsNear s → Keeps IsNear (poisoned_by ts s)
+  poisoned_near ts s n = by (list_all (is_poisonable s.table.language) ts)
+    where
+      by : (b : Bool) → Keeps IsNear (cond {A = Result State Cause} b (Ok (poison_all ts s)) (Err cause.BadPragma))
+      by true = keeps_ok (poison_near ts s n)
+      by false = keeps_err
+
+  pragma_kept : (a b c : Bool) (s t : State) (r q : Result State Cause) → IsNear s → Keeps IsNear r → Keeps IsNear q → IsNear t
+      → Keeps IsNear (cond a (Ok s) (cond b r (cond c q (Ok t))))
+  pragma_kept true b c s t r q n k i m = keeps_ok n
+  pragma_kept false true c s t r q n k i m = k
+  pragma_kept false false true s t r q n k i m = i
+  pragma_kept false false false s t r q n k i m = keeps_ok m
 
   after_pragma_near : (f : File) (l : FileLine) (s : State) (h : Here) → IsNear s → Keeps IsNear (after_pragma f l s h)
   after_pragma_near f l s h n =
-      pragma_kept (names_once (operands l)) (is_stacking s.table.language (operands l)) _ _ (restacked (operands l) s.table >>= λ t. Ok (with_table t s)) n
-      (keeps_then (restacked_absent (operands l) s.table n.1) (λ table absent. keeps_ok (n.0, absent))) n
+      pragma_kept (names_once (operands l)) (is_stacking s.table.language (operands l)) (names_poison s.table.language (operands l)) _ _
+      (restacked (operands l) s.table >>= λ t. Ok (with_table t s)) (poisoned_by (drop 2 (operands l)) s) n
+      (keeps_then (restacked_absent (operands l) s.table n.1) (λ table absent. keeps_ok (n.0, absent))) (poisoned_near (drop 2 (operands l)) s n) n
 
   changed_near : (directive : DirectiveKind) (f : File) (l : FileLine) (s : State) (h : Here) → Leads f (Other directive) l.tokens → IsNear s
       → Keeps IsNearHere (changed directive f l s h)
@@ -309,7 +377,7 @@ module _ (Near : Found → Type 0) (Absent : List ℕ → Type 0) where
     group_near f (Run ls g) s h d each n =
         holds_then (run_near f ls s h n) (λ r k. group_near f g r.0 r.1 d (each_behind (LineLeadsNear f.task (at_hand f)) ls (lines_of g) each) k)
     group_near f (Control l g) s h d each n =
-        holds_then (holds_then (waiting_near f h.waiting s h n) (λ p k. control_near l.kind f l p.0 p.1 d each.0 k)) (λ r k. group_near f g r.0 r.1 d each.1 k)
+        holds_then (holds_then (before_near l f s h n) (λ p k. holds_then (line_near f l p.0 k) (λ _ _. control_near l.kind f l p.0 p.1 d each.0 k))) (λ r k. group_near f g r.0 r.1 d each.1 k)
     group_near f (Section bs g) s h d each n =
         holds_then (section_near f bs s h d (each_before (LineLeadsNear f.task (at_hand f)) (lines_of_branches bs) (lines_of g) each) n)
         (λ r k. group_near f g r.0 r.1 d (each_behind (LineLeadsNear f.task (at_hand f)) (lines_of_branches bs) (lines_of g) each) k)
@@ -317,7 +385,8 @@ module _ (Near : Found → Type 0) (Absent : List ℕ → Type 0) where
     section_near : (f : File) (bs : Branches) (s : State) (h : Here) → IsDeeperNear f.deeper → Each (LineLeadsNear f.task (at_hand f)) (lines_of_branches bs) → IsNear s
         → Holds IsNearHere IsNear (section_read f bs s h)
     section_near f (Branch l g bs) s h d each n =
-        holds_then (holds_halting f (line_of_tokens l.tokens) s (condition_of l.kind f l s h) n (condition_near l.kind f l s h n))
+        holds_then
+        (holds_then (line_near f l s n) (λ _ _. holds_halting f (line_of_tokens l.tokens) s (condition_of l.kind f l s h) n (condition_near l.kind f l s h n)))
         (λ r k. by_test r.0 (group_read f g r.1 h) (section_read f bs r.1 h)
         (group_near f g r.1 h d (each_before (LineLeadsNear f.task (at_hand f)) (lines_of g) (lines_of_branches bs) each.1) k)
         (section_near f bs r.1 h d (each_behind (LineLeadsNear f.task (at_hand f)) (lines_of g) (lines_of_branches bs) each.1) k))
@@ -326,7 +395,7 @@ module _ (Near : Found → Type 0) (Absent : List ℕ → Type 0) where
 
   tree_near : (f : File) (r : Result Group FileFault) (s : State) (h : Here) → IsDeeperNear f.deeper → ((g : Group) → r ≡ Ok g → Each (LineLeadsNear f.task (at_hand f)) (lines_of g)) → IsNear s
       → Holds IsNear IsNear (tree_read f r s h)
-  tree_near f (Ok g) s h d each n = holds_then (group_near f g s h d (each g refl) n) (λ r k. holds_then (waiting_near f r.1.waiting r.0 r.1 k) (λ q i. holds_ok i))
+  tree_near f (Ok g) s h d each n = holds_then (group_near f g s h d (each g refl) n) (λ r k. holds_then (waiting_near f (first_line_in r.1.waiting) r.0 r.1 k) (λ q i. holds_ok i))
   tree_near f (Err fault) s h d each n = holds_halting f fault.1 s (Err fault.0) n keeps_err
 
   module _ (t : Task) (each : (at : Found) → Near at → (g : Group) → tree_of t.settings.language t.listing t.without at.file ≡ Ok g → Each (LineLeadsNear t at) (lines_of g)) where

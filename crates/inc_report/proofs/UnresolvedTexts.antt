@@ -3,11 +3,12 @@ use Rattle.std.proofs.Common.{◌≡◌, ℕ, List, [], ◌∷◌, Option, Ok, E
 use Rattle.std.specs.Prelude.{filter_map, flat_map}
 use Rattle.std.specs.List.{Contains}
 use Rattle.std.proofs.lemmas.List.Elements.{Contains-append_cases}
+use Rattle.inc_graph.specs.declared.building.Source.{Source}
 use Rattle.inc_text.specs.PhaseText.{phase_text}
-use Rattle.inc_lookup.specs.Projects.{Listing, bytes_at, layout_of}
-use Rattle.inc_graph.specs.IncludeGraph.{Graph, IsGraphAnswer, bad_file, blockers_from, directive_count, entry_blocker, entry_missing, entry_of, graph_of_files, inner_files, is_defined_in, missing_from, text_directives}
+use Rattle.inc_lookup.specs.Projects.{Listing, bytes_at}
+use Rattle.inc_graph.specs.IncludeGraph.{Graph, IsGraphAnswer, bad_file, blockers_from, directive_count, entry_blocker, entry_missing, entry_of, graph_of_files, inner_files, is_defined_in, missing_from, text_directives, Start}
 use Rattle.inc_graph.specs.MissingLists.{Missing}
-use Rattle.inc_graph.specs.Settings.{Setting}
+use Rattle.inc_graph.specs.Settings.{Setting, layouts_of}
 use Rattle.inc_graph.specs.declared.graphs.Blocker.{Blocker}
 use Rattle.inc_graph.proofs.ClosureWalks.{answer_is, contains_none}
 use Rattle.inc_graph.proofs.EntryLemmas.{blockers_stand, missing_stand}
@@ -21,19 +22,19 @@ piece_of f (x ∷ xs) y c =
       | inr later ↦ piece_of f xs y later
     ]
 
-module _ (setting : Setting) (listing : Listing) (starts : List (Option ℕ)) (f : ℕ) where
+module _ (setting : Setting) (listing : Listing) (starts : List Start) (f : ℕ) where
   -- a text without bytes has no directives
   none_there : text_directives setting f (phase_text setting.language []) ≡ Ok []
   none_there = refl
 
   no_missing : bytes_at listing f ≡ [] → missing_from setting listing starts f ≡ []
   no_missing bytes =
-      ap (λ r. filter_map (entry_missing f) (filter_map (entry_of setting.undefined (layout_of listing) starts f) (elim r [ Ok directives ↦ directives | Err fault ↦ [] ])))
+      ap (λ r. filter_map (entry_missing f) (filter_map (entry_of setting.undefined (layouts_of setting listing) starts f) (elim r [ Ok directives ↦ directives | Err fault ↦ [] ])))
       (ap (λ (bs : List ℕ). text_directives setting f (phase_text setting.language bs)) bytes ∙ none_there)
 
   no_blockers : (defined : ℕ → Bool) → bytes_at listing f ≡ [] → blockers_from setting listing defined starts f ≡ []
   no_blockers defined bytes =
-      ap (λ r. filter_map (entry_blocker defined f) (filter_map (entry_of setting.undefined (layout_of listing) starts f) (elim r [ Ok directives ↦ directives | Err fault ↦ [] ])))
+      ap (λ r. filter_map (entry_blocker defined f) (filter_map (entry_of setting.undefined (layouts_of setting listing) starts f) (elim r [ Ok directives ↦ directives | Err fault ↦ [] ])))
       (ap (λ (bs : List ℕ). text_directives setting f (phase_text setting.language bs)) bytes ∙ none_there)
 
   missing_text : (m : Missing) → Contains (missing_from setting listing starts f) m → bytes_at listing m.file ≡ [] → ⊥
@@ -46,7 +47,7 @@ module _ (setting : Setting) (listing : Listing) (starts : List (Option ℕ)) (f
       let own : b.file ≡ f = subst (λ (x : Blocker). x.file ≡ f) c.2 (blockers_stand setting listing defined starts f c.0 b c.1) in
       contains_none b (subst (λ (bs : List Blocker). Contains bs b) (no_blockers defined (ap (bytes_at listing) (sym own) ∙ none)) c)
 
-module _ (setting : Setting) (listing : Listing) (sources headers : List ℕ) (g : Graph) (h : IsGraphAnswer setting listing sources headers (Ok g)) where
+module _ (setting : Setting) (listing : Listing) (sources : List Source) (headers : List ℕ) (g : Graph) (h : IsGraphAnswer setting listing sources headers (Ok g)) where
   of_files : graph_of_files setting listing sources headers h.0 (inner_files listing h.0 headers) ≡ g
   of_files =
       let fs = inner_files listing h.0 headers in

@@ -1,5 +1,6 @@
 -- What the changed files of a cut promise of every preprocessing.
 use Rattle.std.specs.Prelude.{◌≡◌, ℕ, List, Ok}
+use Rattle.inc_graph.specs.declared.building.Source.{Source}
 use Rattle.inc_lookup.specs.Projects.{Listing, layout_of}
 use Rattle.inc_graph.specs.Cuts.{fixed_by, costs_by, directives_of, IsCheapest}
 use Rattle.inc_graph.specs.IncludeGraph.{Graph, IsGraphAnswer}
@@ -17,12 +18,12 @@ use Rattle.inc_report.specs.declared.outcome.EndKind.TheVariants.{Answered, Nega
 -- editable directives than those that are blanked in them separates the sources from the headers in their graph
 pub record ChangesKeepHeadersOut (q : Question) (l : Limits) (listing : Listing) (cs : List Change) : Type 0 where
   -- sources and headers are files of the project
-  pub sources : List ℕ
+  pub sources : List Source
   pub headers : List ℕ
-  pub sources_are : sources_at (layout_of listing) q.from q.to ≡ Ok sources
+  pub sources_are : sources_at (layout_of listing) q ≡ Ok sources
   pub headers_are : headers_at (layout_of listing) q.to ≡ Ok headers
   -- no preprocessing of a source reads a header
-  pub kept_out : NeverReadAny (changed_listing cs listing) q.language q.undefined sources headers
+  pub kept_out : NeverReadAny q.others (changed_listing cs listing) q.language q.undefined sources headers
       (named_directives (layout_of listing) q.without)
   -- the graph of the question
   pub graph : Graph

@@ -1,6 +1,8 @@
 -- What a printed cut promises of every preprocessing.
-use Rattle.std.specs.Prelude.{◌≡◌, ℕ, not, List, ◌++◌, Ok, IfOk, IsTrue, codes}
+use Rattle.std.specs.Prelude.{◌≡◌, ℕ, not, List, ◌++◌, Ok, Contains, IfOk, IsTrue, codes}
 use Rattle.std.specs.List.{list_all, list_any}
+use Rattle.inc_graph.specs.Settings.{listing_in}
+use Rattle.inc_graph.specs.declared.building.Source.{Source}
 use Rattle.inc_text.specs.declared.languages.Language.{Language}
 use Rattle.inc_lookup.specs.declared.projects.DirectiveId.{DirectiveId}
 use Rattle.inc_lookup.specs.Projects.{Listing, layout_of}
@@ -32,25 +34,26 @@ NeverReads listing language undefined source header removed =
     (words : List (List ℕ)) (settings : Settings) (outcome : Outcome) → settings.language ≡ language → DefineNone language words undefined →
     preprocessing listing source words settings removed ≡ Ok outcome → IsTrue (not (is_member header outcome.reads))
 
--- the same for each of several sources and each of several headers
-abbrev pub NeverReadAny : Listing → Language → (undefined : List (List ℕ)) → (sources headers : List ℕ) → (removed : List DirectiveId) → Type 0
-NeverReadAny listing language undefined sources headers removed =
-    (source header : ℕ) → IsTrue (is_member source sources) → IsTrue (is_member header headers) →
-    NeverReads listing language undefined source header removed
+-- the same for each of several sources, with its include path, and each of several headers; these are the include paths beside the
+-- project's own
+abbrev pub NeverReadAny : (others : List (List (List ℕ))) → Listing → Language → (undefined : List (List ℕ)) → (sources : List Source) → (headers : List ℕ) → (removed : List DirectiveId) → Type 0
+NeverReadAny others listing language undefined sources headers removed =
+    (source : Source) (header : ℕ) → Contains sources source → IsTrue (is_member header headers) →
+    NeverReads (listing_in others listing source.path) language undefined source.file header removed
 
 -- the cut of a certificate keeps the headers out of every preprocessing, and no cheaper set of editable directives separates the sources
 -- from the headers in their graph, as the chains show
 pub record KeepsHeadersOut (q : Question) (l : Limits) (listing : Listing) (c : Certificate) : Type 0 where
   -- sources and headers are files of the project
-  pub sources : List ℕ
+  pub sources : List Source
   -- those of the headers
   pub headers : List ℕ
   -- each path of a source names one
-  pub sources_are : sources_at (layout_of listing) q.from q.to ≡ Ok sources
+  pub sources_are : sources_at (layout_of listing) q ≡ Ok sources
   -- and so does each path of a header, of which there is one at least
   pub headers_are : headers_at (layout_of listing) q.to ≡ Ok headers
   -- no preprocessing of a source reads a header
-  pub kept_out : NeverReadAny listing q.language q.undefined sources headers
+  pub kept_out : NeverReadAny q.others listing q.language q.undefined sources headers
       (named_directives (layout_of listing) c.cut ++ named_directives (layout_of listing) q.without)
   -- the graph of the question
   pub graph : Graph
@@ -75,11 +78,11 @@ pub record KeepsHeadersOut (q : Question) (l : Limits) (listing : Listing) (c : 
 -- where no cut exists, a chain from a source to a header is wholly fixed, and these are its directives
 pub record IsWhollyFixed (q : Question) (l : Limits) (listing : Listing) (text : List ℕ) : Type 0 where
   -- sources and headers are files of the project
-  pub sources : List ℕ
+  pub sources : List Source
   -- those of the headers
   pub headers : List ℕ
   -- each path of a source names one
-  pub sources_are : sources_at (layout_of listing) q.from q.to ≡ Ok sources
+  pub sources_are : sources_at (layout_of listing) q ≡ Ok sources
   -- and so does each path of a header
   pub headers_are : headers_at (layout_of listing) q.to ≡ Ok headers
   -- the graph of the question

@@ -1,20 +1,21 @@
 -- What a cut is for: once its directives are removed, no preprocessing of a source reads a header.
-use Rattle.std.specs.Prelude.{◌≡◌, ℕ, List, [], ◌++◌, Option, Ok, filter_map}
+use Rattle.std.specs.Prelude.{◌≡◌, ℕ, List, [], ◌++◌, Ok, filter_map}
+use Rattle.inc_graph.specs.declared.building.Source.{Source}
 use Rattle.inc_lookup.specs.Projects.{Listing}
 use Rattle.inc_graph.specs.Cuts.{Fixed, IsSeparating, directives_of}
-use Rattle.inc_graph.specs.IncludeGraph.{Graph, IsClosure, IsGraphAnswer, inner_files, bad_file, graph_of_files}
+use Rattle.inc_graph.specs.IncludeGraph.{Graph, Start, IsClosure, IsGraphAnswer, inner_files, bad_file, graph_of_files}
 use Rattle.inc_graph.specs.Settings.{Setting}
 use Rattle.inc_report.specs.Headline.{NeverReadAny}
 
 -- no preprocessing of a source without the directives of the set, and without those that the setting takes as removed, reads a header
-abbrev pub KeepsOut : Setting → Listing → (sources headers : List ℕ) → Graph → (set : List ℕ) → Type 0
+abbrev pub KeepsOut : Setting → Listing → (sources : List Source) → (headers : List ℕ) → Graph → (set : List ℕ) → Type 0
 KeepsOut setting listing sources headers g set =
-    NeverReadAny listing setting.language setting.undefined sources headers (directives_of g set ++ setting.removed)
+    NeverReadAny setting.others listing setting.language setting.undefined sources headers (directives_of g set ++ setting.removed)
 
 -- where no file of the closure but perhaps the headers is bad, and no blocker is, each separating set keeps the headers out
 abbrev pub CutKeepsHeadersOut : Type 0
 CutKeepsHeadersOut =
-    (setting : Setting) (listing : Listing) (sources headers : List ℕ) (starts : ℕ → List (Option ℕ)) → IsClosure setting listing sources headers starts →
+    (setting : Setting) (listing : Listing) (sources : List Source) (headers : List ℕ) (starts : ℕ → List Start) → IsClosure setting listing sources headers starts →
     let files : List ℕ = inner_files listing starts headers in
     let g : Graph = graph_of_files setting listing sources headers starts files in
     filter_map (bad_file setting listing) files ≡ [] → g.blockers ≡ [] →
@@ -23,6 +24,6 @@ CutKeepsHeadersOut =
 -- the same of a graph that is answered
 abbrev pub AnsweredCutKeepsHeadersOut : Type 0
 AnsweredCutKeepsHeadersOut =
-    (setting : Setting) (listing : Listing) (sources headers : List ℕ) (g : Graph) → IsGraphAnswer setting listing sources headers (Ok g) →
+    (setting : Setting) (listing : Listing) (sources : List Source) (headers : List ℕ) (g : Graph) → IsGraphAnswer setting listing sources headers (Ok g) →
     g.blockers ≡ [] → (fixed : Fixed) (set : List ℕ) → IsSeparating g fixed set →
     KeepsOut setting listing sources headers g set

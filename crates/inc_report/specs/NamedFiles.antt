@@ -1,10 +1,12 @@
 -- Which files of a project are named by paths, which need not be in normal form.
-use Rattle.std.specs.Prelude.{◌≡◌, ℕ, List, [], ◌∷◌, Option, Some, None, Result, Ok, Err, filter, filter_map, length, option_and_then}
+use Rattle.std.specs.Prelude.{◌≡◌, ℕ, suc, List, [], ◌∷◌, Option, Some, None, Result, Ok, Err, filter, filter_map, flat_map, length, map, nat_lt, option_and_then, slice_index_or}
 use Rattle.std.specs.List.{position, range_with_len}
 use Rattle.std.specs.Option.{is_none}
+use Rattle.inc_graph.specs.declared.building.Source.{Source}
 use Rattle.inc_lookup.specs.Paths.{normal_form}
 use Rattle.inc_lookup.specs.Projects.{Layout, place_of}
 use Rattle.inc_graph.specs.Members.{is_member}
+use Rattle.inc_report.specs.Terms.{Question}
 use Rattle.inc_report.specs.declared.named_files.NameFault.{NameFault}
 use Rattle.inc_report.specs.declared.named_files.NameFault.TheVariants.{Unnamed, NoMemory}
 
@@ -35,12 +37,39 @@ abbrev pub headers_at : Layout → (to : Option (List (List ℕ))) → Result (L
 headers_at layout None = Ok []
 headers_at layout (Some paths) = some_files_at layout paths
 
--- its sources, of which there must be one where it is about them alone
-abbrev pub sources_at : Layout → (from : List (List ℕ)) → (to : Option (List (List ℕ))) → Result (List ℕ) ℕ
-sources_at layout from None = some_files_at layout from
-sources_at layout from (Some to) = files_at layout from
+-- the files of its sources, of which there must be one where it is about them alone
+abbrev pub source_files_at : Layout → (from : List (List ℕ)) → (to : Option (List (List ℕ))) → Result (List ℕ) ℕ
+source_files_at layout from None = some_files_at layout from
+source_files_at layout from (Some to) = files_at layout from
+
+-- the numbers that there are among those of include paths
+abbrev pub given_paths : (count : ℕ) → (paths : List ℕ) → List ℕ
+given_paths count paths = filter (λ k. nat_lt k count) paths
+
+abbrev pub or_each : (count : ℕ) → (paths : List ℕ) → List ℕ
+or_each count [] = range_with_len 0 count
+or_each count (k ∷ ks) = k ∷ ks
+
+-- those with which a file is read as a source
+abbrev pub source_paths : Question → (file : ℕ) → List ℕ
+source_paths q file = or_each (suc (length q.others)) (given_paths (suc (length q.others)) (slice_index_or q.read_with file []))
+
+abbrev pub source_of : (file path : ℕ) → Source
+source_of file path = record { file = file; path = path }
+
+-- files as sources, each with its include paths
+abbrev pub sources_of : Question → (files : List ℕ) → List Source
+sources_of q files = flat_map (λ f. map (source_of f) (source_paths q f)) files
+
+abbrev pub as_sources : Question → Result (List ℕ) ℕ → Result (List Source) ℕ
+as_sources q (Ok files) = Ok (sources_of q files)
+as_sources q (Err i) = Err i
+
+-- the sources of a question
+abbrev pub sources_at : Layout → Question → Result (List Source) ℕ
+sources_at layout q = as_sources q (source_files_at layout q.from q.to)
 
 -- the path at this place is the first that names no file, or memory ran out
-abbrev pub IsNameFault : Result (List ℕ) ℕ → NameFault → Type 0
+abbrev pub IsNameFault : {A : Type 0} → Result A ℕ → NameFault → Type 0
 IsNameFault files (Unnamed i) = files ≡ Err i
 IsNameFault files NoMemory = Unit {0}

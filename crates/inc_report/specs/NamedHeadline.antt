@@ -1,5 +1,6 @@
 -- What a cut promises of every preprocessing whose directives are printed as they are written.
 use Rattle.std.specs.Prelude.{◌≡◌, ℕ, List, ◌++◌, Ok}
+use Rattle.inc_graph.specs.declared.building.Source.{Source}
 use Rattle.inc_lookup.specs.Projects.{Listing, layout_of}
 use Rattle.inc_graph.specs.Cuts.{Counted, fixed_by, costs_by, directives_of, IsCut, IsFixedChain}
 use Rattle.inc_graph.specs.IncludeGraph.{Graph, IsGraphAnswer}
@@ -18,9 +19,9 @@ use Rattle.inc_report.specs.declared.outcome.EndKind.TheVariants.{Answered, Nega
 -- the graph between the sources and the headers of a question
 pub record HasGraph (q : Question) (listing : Listing) : Type 0 where
   -- sources and headers are files of the project
-  pub sources : List ℕ
+  pub sources : List Source
   pub headers : List ℕ
-  pub sources_are : sources_at (layout_of listing) q.from q.to ≡ Ok sources
+  pub sources_are : sources_at (layout_of listing) q ≡ Ok sources
   pub headers_are : headers_at (layout_of listing) q.to ≡ Ok headers
   -- the graph is built of these files
   pub graph : Graph
@@ -41,7 +42,7 @@ pub record NamedKeepsHeadersOut (form : NamedForm) (q : Question) (l : Limits) (
   -- the text lists them
   pub printed : IsTextOf form q l listing of.graph (Removed set chains) text
   -- no preprocessing of a source reads a header
-  pub kept_out : NeverReadAny listing q.language q.undefined of.sources of.headers
+  pub kept_out : NeverReadAny q.others listing q.language q.undefined of.sources of.headers
       (directives_of of.graph set ++ named_directives (layout_of listing) q.without)
   -- none that separates costs less, as the chains show
   pub cheapest : let amounts : List ℕ = amounts_by (layout_of listing) of.graph l.kept l.fixed l.costs in

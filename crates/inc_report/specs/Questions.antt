@@ -1,5 +1,6 @@
 -- What the calls print that are asked about sources and headers of a project: the first refusal that holds, else the answer.
 use Rattle.std.specs.Prelude.{◌≡◌, ℕ, List, [], Option, None, Result, Ok, Err, codes, unwrap_or}
+use Rattle.inc_graph.specs.declared.building.Source.{Source}
 use Rattle.inc_text.specs.declared.devices.ReadFault.{ReadFault}
 use Rattle.inc_report.specs.Terms.{Question, setting_in}
 use Rattle.inc_lookup.specs.Given.{Given, FailsAfter}
@@ -25,7 +26,7 @@ abbrev pub no_header : Layout → Question → ℕ → Printed
 no_header layout q i = refusal_for (unnamed_at (codes "header") layout.paths (unwrap_or q.to []) i) NoSuchHeader
 
 -- what is printed of sources and headers, where each path names a file
-abbrev pub WithFiles : Layout → Question → (sources headers : Result (List ℕ) ℕ) → (List ℕ → List ℕ → Printed → Type 0) → Printed → Type 0
+abbrev pub WithFiles : Layout → Question → (sources : Result (List Source) ℕ) → (headers : Result (List ℕ) ℕ) → (List Source → List ℕ → Printed → Type 0) → Printed → Type 0
 WithFiles layout q (Err i) headers Then p = p ≡ no_source layout q i
 WithFiles layout q (Ok ss) (Err i) Then p = p ≡ no_header layout q i
 WithFiles layout q (Ok ss) (Ok ts) Then p = Then ss ts p
@@ -42,7 +43,7 @@ OfGraph layout (Ok g) Then p = Then g p
 OfGraph layout (Err fault) Then p = IsRefusalOf layout fault p
 
 -- what is printed of the graph of sources and headers
-abbrev pub WithGraph : Question → Listing → (sources headers : List ℕ) → (Graph → Printed → Type 0) → Printed → Type 0
+abbrev pub WithGraph : Question → Listing → (sources : List Source) → (headers : List ℕ) → (Graph → Printed → Type 0) → Printed → Type 0
 WithGraph q listing sources headers Then p =
     (answer : Result Graph GraphRefusal) × IsGraphAnswer (setting_in (layout_of listing) q) listing sources headers answer
     × OfGraph (layout_of listing) answer Then p
@@ -54,11 +55,11 @@ Answer = Layout → Graph → Printed → Type 0
 -- what is printed of a question
 abbrev pub IsAnswer : Answer → Question → Listing → Printed → Type 0
 IsAnswer Then q listing p =
-    WithFiles (layout_of listing) q (sources_at (layout_of listing) q.from q.to) (headers_at (layout_of listing) q.to)
+    WithFiles (layout_of listing) q (sources_at (layout_of listing) q) (headers_at (layout_of listing) q.to)
     (λ ss ts r. WithGraph q listing ss ts (Then (layout_of listing)) r) p
 
 -- the files that are read for the graph of sources and headers: none where a path names no file
-abbrev pub AreReadFor : Question → (sources headers : Result (List ℕ) ℕ) → List Given → Listing → Type 0
+abbrev pub AreReadFor : Question → (sources : Result (List Source) ℕ) → (headers : Result (List ℕ) ℕ) → List Given → Listing → Type 0
 AreReadFor q (Ok ss) (Ok ts) given listing = IsOfClosure (setting_in (layout_of listing) q) ss ts given listing
 AreReadFor q _ _ given listing = given ≡ []
 
@@ -66,13 +67,13 @@ AreReadFor q _ _ given listing = given ≡ []
 abbrev pub IsAnswerBy : Answer → Question → Printed → List Given → Listing → Type 0
 IsAnswerBy Then q p given listing =
     IsAnswer Then q listing p
-    × AreReadFor q (sources_at (layout_of listing) q.from q.to) (headers_at (layout_of listing) q.to) given listing
+    × AreReadFor q (sources_at (layout_of listing) q) (headers_at (layout_of listing) q.to) given listing
 
 -- a file that the question reaches was not read, and why, after those before it were
 abbrev pub FailsAt : {S : Type 0} → (gives : S → ℕ → Result (List ℕ) ReadFault → S → Type 0) → (old new : S) → Layout → Question
     → ℕ × ReadFault → Type 0
 FailsAt gives old new layout q r =
-    (ss ts : List ℕ) × (sources_at layout q.from q.to ≡ Ok ss) × (headers_at layout q.to ≡ Ok ts)
+    (ss : List Source) × (ts : List ℕ) × (sources_at layout q ≡ Ok ss) × (headers_at layout q.to ≡ Ok ts)
     × FailsAfter gives old new layout r.0 r.1 (IsReachedAfter (setting_in layout q) ss ts r.0)
 
 ---- why a question has no graph
@@ -95,8 +96,8 @@ IsWithin files _ = Unit {0}
 
 -- the path that it names is the first that names no file
 abbrev pub IsFirstUnnamed : Layout → Question → NoGraph → Type 0
-IsFirstUnnamed layout q (no_graph.NoSource i) = sources_at layout q.from q.to ≡ Err i
-IsFirstUnnamed layout q (no_graph.NoHeader i) = ((ss : List ℕ) × (sources_at layout q.from q.to ≡ Ok ss)) × (headers_at layout q.to ≡ Err i)
+IsFirstUnnamed layout q (no_graph.NoSource i) = sources_at layout q ≡ Err i
+IsFirstUnnamed layout q (no_graph.NoHeader i) = ((ss : List Source) × (sources_at layout q ≡ Ok ss)) × (headers_at layout q.to ≡ Err i)
 IsFirstUnnamed layout q (no_graph.Refused fault) = Unit {0}
 
 -- or memory ran out before there was a graph

@@ -4,7 +4,7 @@ use Rattle.inc_text.specs.declared.languages.Language.{Language}
 use Rattle.inc_lookup.specs.declared.projects.DirectiveId.{DirectiveId}
 use Rattle.inc_lookup.specs.Projects.{Layout, place_of}
 use Rattle.inc_graph.specs.Marks.{Mark, Cost}
-use Rattle.inc_graph.specs.Settings.{Setting, setting_of}
+use Rattle.inc_graph.specs.Settings.{Setting, setting_of, with_paths}
 use Rattle.inc_pp.specs.Settings.{Settings}
 
 -- a question about sources and headers, or about sources alone
@@ -19,6 +19,11 @@ pub record Question : Type 0 where
   pub language : Language
   -- names that no build defines on its command line
   pub undefined : List (List ℕ)
+  -- the include paths beside the project's own
+  pub others : List (List (List ℕ))
+  -- for each file of the project the numbers of the include paths with which it is read as a source: 0 is the project's own, and 1 the first
+  -- of the others. A file that has none, and one past the end, is read with each
+  pub read_with : List (List ℕ)
 
 -- what limits a cut
 pub record Limits : Type 0 where
@@ -54,4 +59,4 @@ named_directives layout marks = filter_map (named_directive layout) marks
 
 -- how files are read for a question
 abbrev pub setting_in : Layout → Question → Setting
-setting_in layout q = setting_of q.language (named_directives layout q.without) q.undefined
+setting_in layout q = with_paths (setting_of q.language (named_directives layout q.without) q.undefined) q.others

@@ -1,5 +1,6 @@
 //! What is asked of a project.
 use inc_graph::{Cost, Mark};
+use inc_lookup::IncludePath;
 use inc_pp::Settings;
 use inc_text::Language;
 use std::marker::Model;
@@ -20,6 +21,11 @@ pub struct Question<'q> {
     /// Names that no build defines on its command line: an include by such a name is no blocker where no file that the sources reach
     /// defines the name.
     pub undefined: &'q [&'q [u8]],
+    /// The include paths beside the project's own.
+    pub others: &'q [IncludePath],
+    /// For each file of the project the numbers of the include paths with which it is read as a source: 0 is the project's own, and 1 the
+    /// first of `others`. A file that has none, and one past the end, is read with each; numbers past the last say nothing.
+    pub read_with: &'q [Vec<usize>],
 }
 
 impl<'q> Model for Question<'q> {
@@ -34,6 +40,8 @@ impl<'q> Model for Question<'q> {
       without = q.without.now;
       language = q.language;
       undefined = map (λ n. n.now) q.undefined.now;
+      others = q.others.now;
+      read_with = map (λ v. v.items) q.read_with.now;
     } };
 }
 

@@ -1,10 +1,14 @@
 //! Which files of a project paths name.
-ghost use Rattle.std.specs.Prelude.{◌≡◌, ◌<◌, ◌∷◌, ◌++◌, [], None, Ok, OnOk, Some, if◌then◌else◌, filter, filter_map, length, map, option_map, slice_index_or, false, IfErr, IfOk, IfSome};
+ghost use Rattle.std.specs.Prelude.{◌≡◌, ◌<◌, ◌∷◌, ◌++◌, suc, [], None, Ok, OnOk, Some, if◌then◌else◌, filter, filter_map, length, map, option_map, slice_index_or, false, IfErr, IfOk, IfSome, IsTrue};
 ghost use Rattle.std.specs.List.{All, range_with_len};
 ghost use Rattle.std.specs.List.Sorted.{IsStrictlyIncreasing};
 ghost use Rattle.inc_graph.specs.FileSets.{AreFlags};
-ghost use Rattle.inc_report.specs.NamedFiles.{file_at, files_at, first_unnamed, headers_at, some_files_at, sources_at, IsNameFault};
+ghost use Rattle.inc_report.specs.NamedFiles.{file_at, files_at, first_unnamed, given_paths, headers_at, some_files_at, source_files_at, source_of, source_paths, sources_at, sources_of, IsNameFault};
+ghost use Rattle.inc_graph.specs.IncludeGraph.{are_rising};
+ghost use Rattle.inc_graph.specs.declared.building.Source.{Source};
 
+use crate::asked::Question;
+use inc_graph::Source;
 use inc_lookup::{FileId, Project, normalise};
 use std::alloc::{AllocError, AllocFailed, Global};
 
@@ -56,18 +60,107 @@ pub(crate) fn headers_at(
     }
 }
 
-/// The sources of a question. Where it is about sources alone, the first is missing where there is no path.
+/// The sources of a question, each with the include paths with which it is read. Where it is about sources alone, the first is missing
+/// where there is no path.
 pub(crate) fn sources_at(
+    alloc: Global,
+    project: &Project<'_>,
+    question: &Question<'_>,
+) -> Result<Vec<Source>, NameFault>
+    ensures sources { IfOk result (λ sources. sources_at project.now question.now ≡ Ok sources.items) }
+    ensures within { IfOk result (λ sources. All (λ (s : Source). s.file < length project.now.paths) sources.items) }
+    ensures paths { IfOk result (λ sources. All (λ (s : Source). s.path < suc (length question.now.others)) sources.items) }
+    ensures rise { IfOk result (λ sources. IsTrue (are_rising sources.items)) }
+    ensures some { question.now.to ≡ None → IfOk result (λ sources. 0 < length sources.items) }
+    ensures fault { IfErr result (IsNameFault (sources_at project.now question.now)) }
+{
+    match source_files_at(alloc, project, question.from, question.to) {
+        Ok(files) => Ok(sources_of(alloc, question, &files)?),
+        Err(fault) => Err(fault),
+    }
+}
+
+/// Files as sources.
+fn sources_of(
+    alloc: Global,
+    question: &Question<'_>,
+    files: &[FileId],
+) -> Result<Vec<Source>, AllocError>
+    ensures { IfOk result (λ sources. sources.items ≡ sources_of question.now files.now) }
+{
+    let mut sources = Vec::with_capacity(alloc, files.len())?;
+    for file in files {
+        add_sources(&mut sources, question, *file)?;
+    }
+    Ok(sources)
+}
+
+/// Adds a file as a source with each of its include paths.
+fn add_sources(
+    sources: &mut Vec<Source>,
+    question: &Question<'_>,
+    file: FileId,
+) -> Result<(), AllocError>
+    ensures { OnOk result (sources.new.items ≡ sources.old.items ++ map (source_of file) (source_paths question.now file)) }
+{
+    let count = question.others.len() + 1;
+    let before = sources.len();
+    add_given(sources, file, given_paths(question, file), count)?;
+    if sources.len() == before {
+        add_each(sources, file, count)?;
+    }
+    Ok(())
+}
+
+/// The include paths that are given for a file.
+fn given_paths<'q>(question: &'q Question<'_>, file: FileId) -> &'q [usize]
+    ensures { result.now ≡ slice_index_or question.now.read_with file [] }
+{
+    match question.read_with.get(file.index()) {
+        Some(paths) => paths,
+        None => &[],
+    }
+}
+
+/// Adds a file as a source with those of these include paths that are among so many.
+fn add_given(
+    sources: &mut Vec<Source>,
+    file: FileId,
+    paths: &[usize],
+    count: usize,
+) -> Result<(), AllocError>
+    ensures { OnOk result (sources.new.items ≡ sources.old.items ++ map (source_of file) (given_paths count paths.now)) }
+{
+    for path in paths {
+        if *path < count {
+            sources.push(Source { file, path: *path })?;
+        }
+    }
+    Ok(())
+}
+
+/// Adds a file as a source with each of so many include paths.
+fn add_each(sources: &mut Vec<Source>, file: FileId, count: usize) -> Result<(), AllocError>
+    ensures { OnOk result (sources.new.items ≡ sources.old.items ++ map (source_of file) (range_with_len 0 count)) }
+{
+    for path in 0..count {
+        sources.push(Source { file, path })?;
+    }
+    Ok(())
+}
+
+/// Their files.
+fn source_files_at(
     alloc: Global,
     project: &Project<'_>,
     from: &[&[u8]],
     to: Option<&[&[u8]]>,
 ) -> Result<Vec<FileId>, NameFault>
-    ensures files { IfOk result (λ files. sources_at project.now (map (λ p. p.now) from.now) (option_map (λ ps. map (λ p. p.now) ps.now) to.entry) ≡ Ok files.items) }
+    ensures files { IfOk result (λ files. source_files_at project.now (map (λ p. p.now) from.now) (option_map (λ ps. map (λ p. p.now) ps.now) to.entry) ≡ Ok files.items) }
     ensures within { IfOk result (λ files. All (λ f. f < length project.now.paths) files.items) }
     ensures rise { IfOk result (λ files. IsStrictlyIncreasing files.items) }
     ensures some { to.entry ≡ None → IfOk result (λ files. 0 < length files.items) }
-    ensures fault { IfErr result (IsNameFault (sources_at project.now (map (λ p. p.now) from.now) (option_map (λ ps. map (λ p. p.now) ps.now) to.entry))) }
+    ensures fault { IfErr result (IsNameFault (source_files_at project.now (map (λ p. p.now) from.now) (option_map (λ ps. map (λ p. p.now) ps.now) to.entry))) }
 {
     match to {
         Some(_) => files_at(alloc, project, from),

@@ -27,6 +27,7 @@ pub(crate) fn cause_numbers(cause: Cause) -> (u64, u64)
         Cause::TooDeep => (12, 0),
         Cause::TooManyReads => (13, 0),
         Cause::BadPragma => (14, 0),
+        Cause::Poisoned => (15, 0),
     }
 }
 

@@ -1,7 +1,7 @@
 //! Questions about sources and headers of a project.
-ghost use Rattle.std.specs.Prelude.{◌≡◌, ◌≢◌, ℕ, Some, [], ◌∷◌, ◌++◌, Ok, Err, false, length, IfOk, IfSome, IfErr, OnOk};
+ghost use Rattle.std.specs.Prelude.{◌≡◌, ◌≢◌, ℕ, suc, Some, [], ◌∷◌, ◌++◌, Ok, Err, false, length, IfOk, IfSome, IfErr, OnOk};
 ghost use Rattle.inc_lookup.specs.Given.{HoldsOfGiven, FailsAfter};
-ghost use Rattle.inc_graph.specs.IncludeGraph.{AreEnds, IsGraphAnswer, IsRefusalWithin, IsSound};
+ghost use Rattle.inc_graph.specs.IncludeGraph.{AreAsked, IsGraphAnswer, IsRefusalWithin, IsSound};
 ghost use Rattle.inc_graph.specs.ReadFiles.{IsOfClosure, IsOfFiles, IsReachedAfter, read_fault_of};
 ghost use Rattle.inc_check.specs.Certificates.{IsEachPathOnce};
 ghost use Rattle.inc_report.specs.Known.{IsKnown};
@@ -21,7 +21,7 @@ use crate::near_names::unnamed_at;
 use crate::outcome::{End, RunFault};
 use crate::output::Output;
 use crate::refusals::{Refusal, refuse_for};
-use inc_graph::{Graph, GraphRefusal, Mark, Setting};
+use inc_graph::{Graph, GraphRefusal, Mark, Setting, Source};
 use inc_lookup::{DirectiveId, FileId, Project, Sources};
 use inc_text::ByteSink;
 use std::alloc::{AllocError, Global};
@@ -51,7 +51,7 @@ impl From<AllocError> for NoGraph {
 /// The files between which a question asks.
 #[derive(Drop)]
 pub(crate) struct Ends {
-    pub from: Vec<FileId>,
+    pub from: Vec<Source>,
     pub to: Vec<FileId>,
 }
 
@@ -88,9 +88,9 @@ fn graph_of_ends<S: Sources>(
     ends: &Ends,
     question: &Question<'_>,
 ) -> Result<Graph, NoGraph>
-    requires from { sources_at project.now question.now.from question.now.to ≡ Ok ends.now.from.items }
+    requires from { sources_at project.now question.now ≡ Ok ends.now.from.items }
     requires to { headers_at project.now question.now.to ≡ Ok ends.now.to.items }
-    requires ends { AreEnds (length project.now.paths) ends.now.from.items ends.now.to.items }
+    requires ends { AreAsked (length project.now.paths) (suc (length question.now.others)) ends.now.from.items ends.now.to.items }
     ensures graph { IfOk result (λ graph. (p : Printed) →
         HoldsOfGiven S.gives sources.old sources.new project.now
         (IsAnswerBy (λ layout g r. g ≡ graph) question.now p)) }
@@ -114,13 +114,13 @@ fn graph_of_ends<S: Sources>(
 
 /// The files that the paths of a question name.
 fn ends_of(alloc: Global, project: &Project<'_>, question: &Question<'_>) -> Result<Ends, NoGraph>
-    ensures from { IfOk result (λ ends. sources_at project.now question.now.from question.now.to ≡ Ok ends.from.items) }
+    ensures from { IfOk result (λ ends. sources_at project.now question.now ≡ Ok ends.from.items) }
     ensures to { IfOk result (λ ends. headers_at project.now question.now.to ≡ Ok ends.to.items) }
     ensures ends { IfOk result (λ ends.
-        AreEnds (length project.now.paths) ends.from.items ends.to.items) }
+        AreAsked (length project.now.paths) (suc (length question.now.others)) ends.from.items ends.to.items) }
     ensures cause { IfErr result (IsNoEnds project.now question.now) }
 {
-    let from = match sources_at(alloc, project, question.from, question.to) {
+    let from = match sources_at(alloc, project, question) {
         Ok(files) => files,
         Err(NameFault::Unnamed(place)) => return Err(NoGraph::NoSource(place)),
         Err(NameFault::NoMemory) => return Err(NoGraph::Refused(GraphRefusal::NoMemory)),
@@ -149,7 +149,7 @@ fn graph_between<S: Sources>(
     ends: &Ends,
     question: &Question<'_>,
 ) -> Result<Graph, GraphRefusal>
-    requires { AreEnds (length project.now.paths) ends.now.from.items ends.now.to.items }
+    requires { AreAsked (length project.now.paths) (suc (length question.now.others)) ends.now.from.items ends.now.to.items }
     ensures graph { IfOk result (λ graph.
         HoldsOfGiven S.gives sources.old sources.new project.now (λ given listing.
         IsGraphAnswer (setting_in project.now question.now) listing ends.now.from.items ends.now.to.items (Ok graph)
@@ -170,7 +170,8 @@ fn graph_between<S: Sources>(
         question.language,
         &removed,
         question.undefined,
-    )?;
+    )?
+    .with_paths(question.others);
     Graph::build(alloc, project, sources, &ends.from, &ends.to, &setting)
 }
 

@@ -54,6 +54,7 @@ fn cause_words(cause: Cause) -> &'static [u8]
         Cause::TooDeep => b"includes nested more than 200 deep",
         Cause::TooManyReads => b"more than 100,000 files read",
         Cause::BadPragma => b"bad pragma",
+        Cause::Poisoned => b"poisoned name",
     }
 }
 

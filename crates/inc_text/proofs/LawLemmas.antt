@@ -1,12 +1,12 @@
 -- Laws of the text of every source.
-use Rattle.std.proofs.Common.{◌≡◌, ℕ, suc, ◌+◌, ◌-◌, ◌≤◌, ◌&&◌, not, Bool, true, false, cond, List, [], ◌∷◌, ◌++◌, length, take, get_or, eqb, ltb, count_by, All, refl, sym, ap, ◌∙◌, subst, arith, le_trans}
+use Rattle.std.proofs.Common.{◌≡◌, ℕ, suc, ◌+◌, ◌-◌, ◌≤◌, ◌&&◌, not, Bool, true, false, cond, List, [], ◌∷◌, ◌++◌, length, take, get_or, eqb, ltb, count_by, drop, zero, All, refl, sym, ap, ◌∙◌, subst, arith, le_trans}
 use Rattle.std.specs.List.{AllPairs}
 use Rattle.std.proofs.lemmas.Bool.{cond_both, cond-false, lt-ltb}
 use Rattle.std.proofs.lemmas.List.{append_assoc, take_at, take_all, take-take, length_push, length-append}
 use Rattle.std.proofs.lemmas.List.Elements.{All-nil, All-cons, All-head, All-tail}
 use Rattle.std.proofs.lemmas.List.Kept.{AllPairs-cons}
 use Rattle.std.proofs.lemmas.List.Sums.{sum_by-take-le, sum_by_push}
-use Rattle.inc_text.specs.PhaseText.{Cell, cells_from, joined, without_mark, with_new_lines, with_trigraphs, spliced, ended_by, added_new_line, phase_text, bytes_of, trigraph, is_trigraph}
+use Rattle.inc_text.specs.PhaseText.{Cell, cells_from, end_cells, joined, without_mark, with_new_lines, with_trigraphs, spliced, ended_by, added_new_line, phase_text, bytes_of, trigraph, is_trigraph}
 use Rattle.inc_text.specs.Origins.{text_from, open_text, is_special, mark_len, ends_open}
 use Rattle.inc_text.proofs.PhaseLemmas.{text_plain, without_mark_is, lf}
 use Rattle.inc_text.specs.declared.languages.Language.{Language}
@@ -62,11 +62,17 @@ module _ (language : Language) (source : List ℕ) where
   lie_trigraphs lo hi (a ∷ b ∷ c ∷ r) h =
       cond_both (is_trigraph language a.byte b.byte c.byte) (joined (trigraph language c.byte) a c ∷ with_trigraphs language r) (a ∷ with_trigraphs language (b ∷ c ∷ r)) (Lie source lo hi) (λ _. (h.0, omega (arith, h.1, h.3.0, h.3.1, h.3.3.0, h.3.3.1), h.2, lie_trigraphs c.last hi r h.3.3.3)) (λ _. (h.0, h.1, h.2, lie_trigraphs a.last hi (b ∷ c ∷ r) h.3))
 
-  lie_spliced : (lo hi : ℕ) (cells : List Cell) → Lie source lo hi cells → Lie source lo hi (spliced cells)
+  lie_drop : (n lo hi : ℕ) (cells : List Cell) → Lie source lo hi cells → Lie source lo hi (drop n cells)
+  lie_drop zero lo hi cells h = h
+  lie_drop (suc n) lo hi [] h = h
+  lie_drop (suc n) lo hi (c ∷ cs) h = lie_drop n lo hi cs (lower lo c.last hi cs (omega (arith, h.0, h.1)) h.3)
+
+  lie_spliced : (lo hi : ℕ) (cells : List Cell) → Lie source lo hi cells → Lie source lo hi (spliced language cells)
   lie_spliced lo hi [] h = h
-  lie_spliced lo hi (a ∷ []) h = h
-  lie_spliced lo hi (a ∷ b ∷ r) h =
-      cond_both (eqb a.byte 92 && eqb b.byte 10) (spliced r) (a ∷ spliced (b ∷ r)) (Lie source lo hi) (λ _. lower lo b.last hi (spliced r) (omega (arith, h.0, h.1, h.3.0, h.3.1)) (lie_spliced b.last hi r h.3.3)) (λ _. (h.0, h.1, h.2, lie_spliced a.last hi (b ∷ r) h.3))
+  lie_spliced lo hi (a ∷ r) h =
+      cond_both (eqb a.byte 92 && ltb 0 (end_cells language r)) (drop (end_cells language r) (spliced language r)) (a ∷ spliced language r) (Lie source lo hi)
+      (λ _. lie_drop (end_cells language r) lo hi (spliced language r) (lower lo a.last hi (spliced language r) (omega (arith, h.0, h.1)) (lie_spliced a.last hi r h.3)))
+      (λ _. (h.0, h.1, h.2, lie_spliced a.last hi r h.3))
 
   lie_ended : (end : Cell) (lo hi : ℕ) (cells : List Cell) → end.first ≡ hi → end.last ≡ hi → LineOf source end → Lie source lo hi cells → Lie source lo hi (ended_by end cells)
   lie_ended end lo hi [] f l n h = h
@@ -146,7 +152,7 @@ no_mark false e = refl
 
 pub text_stays : (language : Language) (source : List ℕ) → All (λ b. is_special b ≡ false) source → mark_len source ≡ 0 → phase_text language source ≡ ended_by (added_new_line source) (cells_from 0 1 source)
 text_stays language source h none =
-    ap (λ l. ended_by (added_new_line source) (spliced (with_trigraphs language (with_new_lines l)))) (without_mark_is source ∙ cond-false _ _ _ (no_mark _ none)) ∙ ap (ended_by (added_new_line source)) (plain_cells language 0 1 source h)
+    ap (λ l. ended_by (added_new_line source) (spliced language (with_trigraphs language (with_new_lines l)))) (without_mark_is source ∙ cond-false _ _ _ (no_mark _ none)) ∙ ap (ended_by (added_new_line source)) (plain_cells language 0 1 source h)
 
 bytes_of-cells_from : (at line : ℕ) (bs : List ℕ) → bytes_of (cells_from at line bs) ≡ bs
 bytes_of-cells_from at line [] = refl

@@ -402,7 +402,7 @@ pub start_plain : (language : Language) (source : List ℕ) → mark_len source 
 start_plain language source none short = record {
   origins_to = origins_none;
   splices_to = splices_none;
-  text = ap (λ l. spliced (with_trigraphs language (with_new_lines l))) (sym (without_mark_is source ∙ cond-false _ _ _ (no_mark _ none)));
+  text = ap (λ l. spliced language (with_trigraphs language (with_new_lines l))) (sym (without_mark_is source ∙ cond-false _ _ _ (no_mark _ none)));
   lines = (let none : count_by lf [] ≡ 0 = refl in omega (arith, none));
   fewer = omega arith;
   bound = omega arith;
@@ -429,7 +429,7 @@ start_marked language source n is some short =
     subst P (sym p.1) (record {
       origins_to = origins_skip [] 0 0 3 origins_none (omega arith) (omega arith);
       splices_to = splices_none;
-      text = ap (λ l. spliced (with_trigraphs language (with_new_lines l))) (sym (without_mark_is source ∙ cond-true _ _ _ p.0));
+      text = ap (λ l. spliced language (with_trigraphs language (with_new_lines l))) (sym (without_mark_is source ∙ cond-true _ _ _ p.0));
       lines = (let none : count_by lf [] ≡ 0 = refl in omega (arith, none, past.0));
       fewer = omega arith;
       bound = past.1;

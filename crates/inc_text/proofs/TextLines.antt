@@ -1,8 +1,8 @@
 -- The lines of a text never fall, and rise after each LF.
-use Rattle.std.proofs.Common.{◌≡◌, ℕ, ◌+◌, ◌≤◌, ◌&&◌, false, cond, List, [], ◌∷◌, eqb, All, refl, arith}
+use Rattle.std.proofs.Common.{◌≡◌, ℕ, zero, suc, ◌+◌, ◌≤◌, ◌&&◌, false, cond, List, [], ◌∷◌, drop, eqb, ltb, All, refl, arith}
 use Rattle.std.proofs.lemmas.Bool.{cond_both, cond-true, cond-false, and_parts}
 use Rattle.std.proofs.lemmas.List.Elements.{All-head, All-tail}
-use Rattle.inc_text.specs.PhaseText.{Cell, cells_from, joined, without_mark, with_new_lines, with_trigraphs, spliced, ended_by, added_new_line, phase_text, trigraph, is_trigraph}
+use Rattle.inc_text.specs.PhaseText.{Cell, cells_from, end_cells, joined, without_mark, with_new_lines, with_trigraphs, spliced, ended_by, added_new_line, phase_text, trigraph, is_trigraph}
 use Rattle.inc_text.specs.Origins.{open_text}
 use Rattle.inc_text.specs.TextLaws.{line_behind, AreLinesFrom}
 use Rattle.inc_text.proofs.LawLemmas.{open_text-within}
@@ -51,14 +51,18 @@ ascend_trigraphs language line (a ∷ b ∷ c ∷ r) h =
     (λ _. (h.0, ascend_trigraphs language (line_behind whole) r (lower (line_behind whole) (line_behind c) r least h.1.1.1)))
     (λ _. (h.0, ascend_trigraphs language (line_behind a) (b ∷ c ∷ r) h.1))
 
-ascend_spliced : (line : ℕ) (cells : List Cell) → AreLinesFrom line cells → AreLinesFrom line (spliced cells)
-ascend_spliced line [] h = h
-ascend_spliced line (a ∷ []) h = h
-ascend_spliced line (a ∷ b ∷ r) h =
-    let least : line ≤ line_behind b = omega (arith, h.0, h.1.0, line_behind-least a, line_behind-least b) in
-    cond_both (eqb a.byte 92 && eqb b.byte 10) (spliced r) (a ∷ spliced (b ∷ r)) (AreLinesFrom line)
-    (λ _. lower line (line_behind b) (spliced r) least (ascend_spliced (line_behind b) r h.1.1))
-    (λ _. (h.0, ascend_spliced (line_behind a) (b ∷ r) h.1))
+ascend_drop : (n line : ℕ) (cells : List Cell) → AreLinesFrom line cells → AreLinesFrom line (drop n cells)
+ascend_drop zero line cells h = h
+ascend_drop (suc n) line [] h = h
+ascend_drop (suc n) line (c ∷ cs) h = ascend_drop n line cs (lower line (line_behind c) cs (omega (arith, h.0, line_behind-least c)) h.1)
+
+ascend_spliced : (language : Language) (line : ℕ) (cells : List Cell) → AreLinesFrom line cells → AreLinesFrom line (spliced language cells)
+ascend_spliced language line [] h = h
+ascend_spliced language line (a ∷ r) h =
+    let rest : AreLinesFrom (line_behind a) (spliced language r) = ascend_spliced language (line_behind a) r h.1 in
+    cond_both (eqb a.byte 92 && ltb 0 (end_cells language r)) (drop (end_cells language r) (spliced language r)) (a ∷ spliced language r) (AreLinesFrom line)
+    (λ _. ascend_drop (end_cells language r) line (spliced language r) (lower line (line_behind a) (spliced language r) (omega (arith, h.0, line_behind-least a)) rest))
+    (λ _. (h.0, rest))
 
 ascend_ended : (end : Cell) (line : ℕ) (cells : List Cell) → All (λ (c : Cell). c.line ≤ end.line) cells → AreLinesFrom line cells → AreLinesFrom line (ended_by end cells)
 ascend_ended end line [] below h = h
@@ -72,4 +76,4 @@ ascend_ended end line (a ∷ b ∷ r) below h =
 
 pub phase_text-ascends : (language : Language) (source : List ℕ) → AreLinesFrom 1 (phase_text language source)
 phase_text-ascends language source =
-    ascend_ended (added_new_line source) 1 (open_text language source) (open_text-within language source) (ascend_spliced 1 _ (ascend_trigraphs language 1 _ (ascend_new_lines 1 _ (ascend_without_mark 1 _ (ascend_from 0 1 source)))))
+    ascend_ended (added_new_line source) 1 (open_text language source) (open_text-within language source) (ascend_spliced language 1 _ (ascend_trigraphs language 1 _ (ascend_new_lines 1 _ (ascend_without_mark 1 _ (ascend_from 0 1 source)))))

@@ -9,7 +9,7 @@ use Rattle.inc_text.specs.declared.cursors.Level.{Level}
 use Rattle.inc_text.specs.declared.origins.Origin.{Origin}
 use Rattle.inc_text.specs.declared.source_pieces.SourcePiece.{SourcePiece}
 use Rattle.inc_text.specs.declared.source_pieces.SourcePiece.TheVariants.{Byte, Splice}
-use Rattle.inc_text.specs.PhaseText.{Cell, range_and_line, trigraph, cells_from, without_mark, with_new_lines, with_trigraphs, spliced, longest_text}
+use Rattle.inc_text.specs.PhaseText.{Cell, cells_from, is_passed, longest_text, one_more, range_and_line, spliced, trigraph, with_new_lines, with_trigraphs, without_mark}
 use Rattle.inc_text.specs.declared.devices.TheConstants.{LONGEST_FILE}
 use Rattle.memchr.specs.Find.{is_byte3}
 use Rattle.inc_text.specs.declared.languages.Language.{Language}
@@ -134,14 +134,20 @@ front_byte language bs = if nat_lt 0 (new_line_len bs) then 10 else if nat_lt 0 
 abbrev pub front_width : Language → List ℕ → ℕ
 front_width language bs = if nat_lt 0 (new_line_len bs) then new_line_len bs else if nat_lt 0 (trigraph_of language bs) then 3 else 1
 
+-- how many bytes a new-line at the front of a source has with white space before it that may be in a splice; 0 where none is there
+abbrev pub end_len : Language → List ℕ → ℕ
+end_len language [] = 0
+end_len language (b ∷ bs) =
+    if nat_lt 0 (new_line_len (b ∷ bs)) then new_line_len (b ∷ bs) else if is_passed language b then one_more (end_len language bs) else 0
+
 -- whether a source begins with a `\` and a new-line
 abbrev pub begins_splice : Language → List ℕ → Bool
-begins_splice language bs = (front_byte language bs == backslash) && nat_lt 0 (new_line_len (drop (front_width language bs) bs))
+begins_splice language bs = (front_byte language bs == backslash) && nat_lt 0 (end_len language (drop (front_width language bs) bs))
 
 -- what a source goes on with
 abbrev pub piece_of : Language → List ℕ → SourcePiece
 piece_of language bs =
-    if begins_splice language bs then Splice (front_width language bs + new_line_len (drop (front_width language bs) bs))
+    if begins_splice language bs then Splice (front_width language bs + end_len language (drop (front_width language bs) bs))
     else Byte (front_byte language bs) (front_width language bs)
 
 -- origins of a text of n bytes, whose next byte stands for the source bytes from `at` on
@@ -159,11 +165,11 @@ pub record SplicesTo (splices : List ℕ) (n : ℕ) : Type 0 where
 
 -- the text after phase 2 of a source whose first byte is byte `at` of a file, on a line
 abbrev pub text_from : Language → ℕ → ℕ → List ℕ → List Cell
-text_from language at line source = spliced (with_trigraphs language (with_new_lines (cells_from at line source)))
+text_from language at line source = spliced language (with_trigraphs language (with_new_lines (cells_from at line source)))
 
 -- the text of a source before a new-line is added at its end
 abbrev pub open_text : Language → List ℕ → List Cell
-open_text language source = spliced (with_trigraphs language (with_new_lines (without_mark (cells_from 0 1 source))))
+open_text language source = spliced language (with_trigraphs language (with_new_lines (without_mark (cells_from 0 1 source))))
 
 -- what is known of the parts of a text once its source is read up to place `at`
 pub record ReadTo (language : Language) (source : List ℕ) (origins : List Origin) (splices bytes : List ℕ) (at : ℕ) : Type 0 where

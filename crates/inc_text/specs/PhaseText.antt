@@ -1,8 +1,10 @@
 -- Translation phases 1 and 2 (ISO/IEC 9899:2018, 5.1.1.2 and 5.2.1.1): the text that is left once trigraphs are
 -- replaced and lines are spliced. Each step is a map on the whole list. A byte is a number, LF is 10.
--- Choices of this profile: the byte order mark, CR LF, and the new-line that is added at the end. GNU C has no trigraphs.
-use Rattle.std.specs.Prelude.{ℕ, ◌+◌, ◌==◌, ◌&&◌, Bool, List, [], ◌∷◌, if◌then◌else◌, length, map, count_by, nat_lt}
-use Rattle.inc_text.specs.Ascii.{apostrophe, backslash, caret, carriage_return, close_brace, close_bracket, close_parenthesis, equals, exclamation_mark, greater_than, hash, less_than, line_feed, minus, open_brace, open_bracket, open_parenthesis, question_mark, slash, tilde, vertical_bar}
+-- Choices of this profile: the byte order mark, CR LF, and the new-line that is added at the end. GNU C has no trigraphs, and splices
+-- with white space in them.
+use Rattle.std.specs.Prelude.{ℕ, zero, suc, ◌+◌, ◌==◌, ◌&&◌, ◌||◌, Bool, List, [], ◌∷◌, if◌then◌else◌, drop, length, map, count_by, nat_lt}
+use Rattle.inc_text.specs.Ascii.{apostrophe, backslash, blank, caret, carriage_return, close_brace, close_bracket, close_parenthesis, equals, exclamation_mark, form_feed, greater_than, hash, less_than, line_feed, minus, open_brace, open_bracket, open_parenthesis, question_mark, slash, tab, tilde, vertical_bar, vertical_tab}
+use Rattle.inc_text.specs.Languages.{is_gnu}
 use Rattle.inc_text.specs.declared.devices.TheConstants.{LONGEST_FILE}
 use Rattle.inc_text.specs.declared.languages.Language.{Language}
 use Rattle.inc_text.specs.declared.languages.Language.TheVariants.{Gnu}
@@ -64,10 +66,27 @@ with_trigraphs language (a ∷ b ∷ c ∷ rest) =
     else a ∷ with_trigraphs language (b ∷ c ∷ rest)
 with_trigraphs language cells = cells
 
--- without each `\` that a new-line follows, and that new-line, in one pass
-abbrev pub spliced : List Cell → List Cell
-spliced (a ∷ b ∷ rest) = if (a.byte == backslash) && (b.byte == line_feed) then spliced rest else a ∷ spliced (b ∷ rest)
-spliced cells = cells
+-- white space that may be between the `\` and the new-line of a splice: space, HT, VT and FF, in GNU C alone
+abbrev pub is_passed : Language → ℕ → Bool
+is_passed language b = is_gnu language && ((b == blank) || (b == tab) || (b == vertical_tab) || (b == form_feed))
+
+-- one more than some
+abbrev pub one_more : ℕ → ℕ
+one_more zero = zero
+one_more (suc n) = suc (suc n)
+
+-- how many cells a new-line has with such white space before it; 0 where the cells begin otherwise
+abbrev pub end_cells : Language → List Cell → ℕ
+end_cells language [] = 0
+end_cells language (a ∷ rest) =
+    if a.byte == line_feed then 1 else if is_passed language a.byte then one_more (end_cells language rest) else 0
+
+-- without each `\` that a new-line follows, what may be between them, and that new-line, in one pass
+abbrev pub spliced : Language → List Cell → List Cell
+spliced language [] = []
+spliced language (a ∷ rest) =
+    if (a.byte == backslash) && nat_lt 0 (end_cells language rest) then drop (end_cells language rest) (spliced language rest)
+    else a ∷ spliced language rest
 
 -- with the LF `end` at the end, unless the text is empty or ends in LF
 abbrev pub ended_by : Cell → List Cell → List Cell
@@ -83,7 +102,7 @@ added_new_line source =
 -- the text of a source
 abbrev pub phase_text : Language → List ℕ → List Cell
 phase_text language source =
-    ended_by (added_new_line source) (spliced (with_trigraphs language (with_new_lines (without_mark (cells_from 0 1 source)))))
+    ended_by (added_new_line source) (spliced language (with_trigraphs language (with_new_lines (without_mark (cells_from 0 1 source)))))
 
 -- a text has at most one byte more than its source: the LF that is missing at the source's end
 abbrev pub longest_text : ℕ

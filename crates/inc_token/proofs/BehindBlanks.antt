@@ -1,6 +1,6 @@
 -- Where no white space is, the piece can be told by digits and letters first, and the other first bytes after them.
 use Rattle.std.proofs.Common.{◌≡◌, ℕ, ◌+◌, ◌<◌, true, false, not, ◌&&◌, List, [], ◌∷◌, length, get_or, drop, cond, nat_lt, ◌==◌, refl, sym, ap, ◌∙◌, subst, ⊎_elim}
-use Rattle.std.proofs.lemmas.Bool.{cases_Bool, cond-true, or_parts}
+use Rattle.std.proofs.lemmas.Bool.{and_left, cases_Bool, cond-false, cond-true, or_parts}
 use Rattle.std.proofs.lemmas.List.{drop_more}
 use Rattle.inc_token.specs.declared.kinds.Kind.TheVariants.{HeaderName, Punct}
 use Rattle.inc_token.specs.declared.pieces.Piece.TheVariants.{NewLine, Lexeme}
@@ -70,7 +70,15 @@ behind_blanks language progress b bs bare =
     (λ (part : is_row_byte b ≡ true).
     let line = differs is_row_byte 10 b refl part in
     let slash = differs is_row_byte 47 b refl part in
-    rw (part, bare, line, slash) (word_token-is language b bs part ∙ sym (part_token language progress b bs part)))
+    let star = (b == 47) && begins_with_byte 42 bs in
+    let double = (b == 47) && begins_with_byte 47 bs in
+    let token = token_by language progress (b ∷ bs) in
+    let late = cond double (line_comment (b ∷ bs)) token in
+    let to_token : cond (b == 10) NewLine (cond star (block_comment (b ∷ bs)) late) ≡ token =
+    cond-false (b == 10) NewLine (cond star (block_comment (b ∷ bs)) late) line
+    ∙ cond-false star (block_comment (b ∷ bs)) late (and_left (b == 47) (begins_with_byte 42 bs) slash)
+    ∙ cond-false double (line_comment (b ∷ bs)) token (and_left (b == 47) (begins_with_byte 47 bs) slash) in
+    rw (part, bare) (word_token-is language b bs part ∙ sym (part_token language progress b bs part) ∙ sym to_token))
     (λ (other : is_row_byte b ≡ false).
     let neither = or_parts (is_digit b) (is_letter b) other in
     let star = (b == 47) && begins_with_byte 42 bs in

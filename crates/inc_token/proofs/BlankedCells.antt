@@ -3,13 +3,14 @@ use Rattle.std.proofs.Common.{◌≡◌, ◌≢◌, ℕ, zero, suc, ◌+◌, ◌
 use Rattle.std.specs.List.{list_any}
 use Rattle.std.proofs.lemmas.Bool.{cond-true, cond-false, false_from_ne_true, and_left, and_right, eqb-true, ne_eqb}
 use Rattle.std.proofs.lemmas.List.{length-append, length-map, length-drop, length-take-le, take-append-drop, append_cancel_left}
-use Rattle.inc_text.specs.PhaseText.{Cell, added_new_line, cells_from, ended_by, phase_text, without_mark}
+use Rattle.inc_text.specs.PhaseText.{Cell, added_new_line, bytes_of, cells_from, ended_by, phase_text, without_mark}
 use Rattle.inc_text.proofs.PhaseLemmas.{lf, count_cons, count_append, has_mark, without_mark_is}
 use Rattle.inc_token.specs.Blanking.{Range, blank_byte, blanked_from, is_in}
 use Rattle.inc_token.specs.BlankingSteps.{with_blank}
 use Rattle.inc_token.specs.TokenLaws.{last_of}
 use Rattle.inc_token.proofs.BlankedBytes.{blank-lf, blanked_nowhere, in_range, is_in-true}
 use Rattle.inc_token.proofs.BlankedWalks.{AreGone, last_cell, last_of-is}
+use Rattle.inc_token.proofs.ClosedText.{AreClosed}
 use Rattle.inc_token.proofs.HonestCells.{IsHonest, AreHonest, honest_from, honest_without_mark, honest_phases}
 use Rattle.inc_token.proofs.PhaseSeams.{Row, Rise, Away, Parts, phases, is_gone, rise_lower, rise_phases, seam, gone_first, space_between}
 use Rattle.inc_token.proofs.SamePieces.{on_line}
@@ -417,7 +418,8 @@ pub record Blanked (language : Language) (new : List ℕ) (before rest : List Ce
 module _ (language : Language) (front : List ℕ) (b : ℕ) (bs back : List ℕ) (before : List Cell) (c : Cell) (cs rest : List Cell)
     (text : open_text language (front ++ (b ∷ (bs ++ back))) ≡ before ++ (c ∷ (cs ++ rest)))
     (first : c.first ≡ length front) (last : last_of c cs ≡ length front + length (b ∷ bs))
-    (on : on_line c.byte ≡ true) (on_last : on_line (last_cell c cs).byte ≡ true) where
+    (on : on_line c.byte ≡ true) (on_last : on_line (last_cell c cs).byte ≡ true)
+    (closed : AreClosed language (bytes_of before)) where
   abbrev source : List ℕ
   source = front ++ (b ∷ (bs ++ back))
 
@@ -481,6 +483,7 @@ module _ (language : Language) (front : List ℕ) (b : ℕ) (bs back : List ℕ)
         are = gone-blank (p + 1) (cond (eqb (blank_byte b) 10) (l + 1) l) bs;
         end = last_cell-blank (p + 1) (cond (eqb (blank_byte b) 10) (l + 1) l) b bs s refl ∙ end_space;
         text = ap (phases language) new ∙ space_between s space language xs (gone ++ zs)
+            (subst (λ cells. AreClosed language (bytes_of cells)) (sym parts.0) closed)
             ∙ ap (λ cells. phases language xs ++ (s ∷ cells)) (phases_gone language gone zs
             (gone-blank (p + 1) (cond (eqb (blank_byte b) 10) (l + 1) l) bs))
             ∙ ap (λ cells. cells ++ (s ∷ (gone ++ phases language zs))) parts.0
@@ -573,15 +576,15 @@ pub record NewText (language : Language) (source : List ℕ) (before rest : List
 of_parts : (language : Language) (front mid back : List ℕ) (before : List Cell) (c : Cell) (cs rest : List Cell)
     → phase_text language (front ++ (mid ++ back)) ≡ before ++ (c ∷ (cs ++ rest)) → (rest ≡ [] → ⊥)
     → c.first ≡ length front → last_of c cs ≡ length front + length mid → c.first < last_of c cs
-    → on_line c.byte ≡ true → on_line (last_cell c cs).byte ≡ true
+    → on_line c.byte ≡ true → on_line (last_cell c cs).byte ≡ true → AreClosed language (bytes_of before)
     → NewText language (front ++ (map blank_byte mid ++ back)) before rest
-of_parts language front [] back before c cs rest text some first last later on on_last =
+of_parts language front [] back before c cs rest text some first last later on on_last closed =
     absurd (omega (arith, first, last, later))
-of_parts language front (b ∷ bs) back before c cs rest text some first last later on on_last =
+of_parts language front (b ∷ bs) back before c cs rest text some first last later on on_last closed =
     let source : List ℕ = front ++ (b ∷ (bs ++ back)) in
     let end : Cell = added_new_line source in
     let u = unended end (open_text language source) before c cs rest text some in
-    let r = open_blanked language front b bs back before c cs u.0 u.1 first last on on_last in
+    let r = open_blanked language front b bs back before c cs u.0 u.1 first last on on_last closed in
     let whole : ended_by end (before ++ (c ∷ (cs ++ u.0))) ≡ before ++ (c ∷ (cs ++ rest)) =
     ap (ended_by end) (sym u.1) ∙ text in
     record {
@@ -597,9 +600,9 @@ of_parts language front (b ∷ bs) back before c cs rest text some first last la
 -- the source bytes of some cells of a text give way to spaces and LFs, and all else is as it was
 pub blanked_text : (language : Language) (source : List ℕ) (before : List Cell) (c : Cell) (cs rest : List Cell)
     → phase_text language source ≡ before ++ (c ∷ (cs ++ rest)) → (rest ≡ [] → ⊥) → on_line c.byte ≡ true
-    → on_line (last_cell c cs).byte ≡ true
+    → on_line (last_cell c cs).byte ≡ true → AreClosed language (bytes_of before)
     → NewText language (with_blank (record { first = c.first; last = last_of c cs }) source) before rest
-blanked_text language source before c cs rest text some on on_last =
+blanked_text language source before c cs rest text some on on_last closed =
     let p : ℕ = c.first in
     let q : ℕ = last_of c cs in
     let u = unended (added_new_line source) (open_text language source) before c cs rest text some in
@@ -621,4 +624,4 @@ blanked_text language source before c cs rest text some on on_last =
     subst (λ bytes. NewText language bytes before rest)
     (sym (blanked_parts p q front mid back size_front size) ∙ ap (with_blank (record { first = p; last = q })) all)
     (of_parts language front mid back before c cs rest (ap (phase_text language) all ∙ text) some size_front
-    (omega (arith, size, size_front)) at_rest.0 on on_last)
+    (omega (arith, size, size_front)) at_rest.0 on on_last closed)

@@ -32,7 +32,7 @@ one_line : (language : Language) (source : List ℕ) (before : List TokenLine) (
 one_line language source before t ts n after is =
     let r = reach_line language (lines_walk language AtStart false (phase_text language source)
     (before ++ (line (t ∷ ts) n ∷ after)) is) before t ts n after refl (λ _. refl) in
-    let new = blanked_text language source r.before r.c r.cs r.rest r.all (some_cells language r.more) r.first_byte r.last_byte in
+    let new = blanked_text language source r.before r.c r.cs r.rest r.all (some_cells language r.more) r.first_byte r.last_byte r.closed in
     let w = walk_blanked language r new.s new.gone new.space new.are in (
       w.0,
       w.1,

@@ -11,6 +11,7 @@ use Rattle.inc_token.specs.declared.pieces.Piece.{Piece}
 use Rattle.inc_token.specs.declared.pieces.Piece.TheVariants.{Blank, NewLine, Lexeme, Unclosed}
 use Rattle.inc_token.specs.declared.pieces.Progress.{Progress}
 use Rattle.inc_token.specs.declared.pieces.Progress.TheVariants.{AtStart}
+use Rattle.inc_token.proofs.ClosedText.{AreClosed, closed_both, closed_lf, gap_closed}
 use Rattle.inc_token.proofs.SamePieces.{has_lf, on_line, goes_on, any_progress, piece_same, gap_same, token_on_line, new_line_byte, gap_byte}
 use Rattle.inc_token.proofs.Walks.{Walk, at_end, over_gap, over_end, over_token}
 
@@ -204,6 +205,8 @@ pub record Reached (language : Language) (later progress : Progress) (space : Bo
   pub last : last_of c cs ≡ (line_range ts).last
   pub first_byte : on_line c.byte ≡ true
   pub last_byte : on_line (last_cell c cs).byte ≡ true
+  -- no splice begins before it and ends in it
+  pub closed : AreClosed language (bytes_of before)
   pub more : Walk language AtStart false rest (empty_line n ∷ ms)
   pub lf : (l : TokenLine) (others : List TokenLine) → ls ≡ l ∷ others → has_lf (bytes_of before) ≡ true
   pub front : (s : Cell) (w : List Cell) (ks : List TokenLine) → s.byte ≡ 32
@@ -264,6 +267,17 @@ same_cells language progress d ds x old new p lf size closed is =
     ∙ piece_same language progress d.byte front (bytes_of old) (bytes_of new) p holds
     (ap (λ xs. piece_at language progress (d.byte ∷ xs)) (sym (text old)) ∙ is) fits closed
 
+cells_closed : (language : Language) (xs ys : List Cell) → AreClosed language (bytes_of xs ++ bytes_of ys)
+    → AreClosed language (bytes_of (xs ++ ys))
+cells_closed language xs ys h = subst (AreClosed language) (sym (bytes_of-append xs ys)) h
+
+closed_gap : (language : Language) (progress : Progress) (d : Cell) (ds old : List Cell) → goes_on (bytes_of old) ≡ true
+    → piece_at language progress (bytes_of (d ∷ (ds ++ old))) ≡ Blank (length (d ∷ ds)) → AreClosed language (bytes_of (d ∷ ds))
+closed_gap language progress d ds old on is =
+    let size : length (d.byte ∷ bytes_of ds) ≡ length (d ∷ ds) = length-bytes (d ∷ ds) in
+    gap_closed language progress d.byte (bytes_of ds) (bytes_of old) on
+    (ap (λ xs. piece_at language progress (d.byte ∷ xs)) (sym (bytes_of-append ds old)) ∙ is ∙ ap Blank (sym size))
+
 first_token : (language : Language) {progress : Progress} {space : Bool} {cells : List Cell} {ls : List TokenLine}
     → Walk language progress space cells ls
     → (t : Tok) (ts : List Tok) (n : ℕ) (ms : List TokenLine) → ls ≡ line (t ∷ ts) n ∷ ms
@@ -283,6 +297,8 @@ first_token language {progress} {space} (over_gap d ds rest piece more cells at)
       last = r.last;
       first_byte = r.first_byte;
       last_byte = r.last_byte;
+      closed = cells_closed language (d ∷ ds) r.before (closed_both language (bytes_of (d ∷ ds)) (bytes_of r.before)
+          (closed_gap language progress d ds rest on piece) r.closed);
       more = r.more;
       lf = λ l others e. cc;
       front = λ s w ks is_space walks.
@@ -305,6 +321,7 @@ first_token language {progress} {space} (over_token {ls = ls} kind d ds rest pie
       last = r.last ∙ ap (λ e. end_of e ts) ends;
       first_byte = (token_on_line language progress d.byte (bytes_of (ds ++ rest)) kind (length (d ∷ ds)) piece).0;
       last_byte = r.byte;
+      closed = tt;
       more = r.more;
       lf = λ l others e. cc;
       front = λ s w ks is_space walks. walks space;
@@ -348,6 +365,7 @@ reach_line language {progress} {space} (over_gap d ds rest piece more cells at) 
       last = r.last;
       first_byte = r.first_byte;
       last_byte = r.last_byte;
+      closed = cells_closed language (d ∷ ds) r.before (closed_lf language (bytes_of (d ∷ ds)) (bytes_of r.before) held r.closed);
       more = r.more;
       lf = λ k others e. lf_later d ds r.before held;
       front = λ s w ks is_space walks.
@@ -371,6 +389,7 @@ reach_line language {progress} {space} (over_end {ls = all} d rest piece more) (
       last = r.last;
       first_byte = r.first_byte;
       last_byte = r.last_byte;
+      closed = ((λ back all. let clash : 92 ≡ 10 = sym back ∙ byte in cc), r.closed);
       more = r.more;
       lf = λ k others e. ap (λ b. (b == 10) || has_lf (bytes_of r.before)) byte;
       front = λ s w ks is_space walks.
@@ -395,6 +414,7 @@ reach_line language {progress} {space} (over_token {ls = all} kind d ds rest pie
       last = r.last;
       first_byte = r.first_byte;
       last_byte = r.last_byte;
+      closed = cells_closed language (d ∷ ds) r.before (closed_lf language (bytes_of (d ∷ ds)) (bytes_of r.before) held r.closed);
       more = r.more;
       lf = λ k others e. lf_later d ds r.before held;
       front = λ s w ks is_space walks.

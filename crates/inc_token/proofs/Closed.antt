@@ -14,7 +14,7 @@ Grows n r = (r ≡ 0) ⊎ (n < r)
 grows_from : (n r : ℕ) → Grows (suc n) r → Grows n r
 grows_from n r h = ⊎_elim (λ (none : r ≡ 0). inl none) (λ (some : suc n < r). inr (omega arith)) h
 
-closed_grows : (quote : ℕ) (escaped : Bool) (n : ℕ) (text : List ℕ) → Grows n (closed_at quote escaped n text)
+pub closed_grows : (quote : ℕ) (escaped : Bool) (n : ℕ) (text : List ℕ) → Grows n (closed_at quote escaped n text)
 closed_grows quote escaped n [] = inl refl
 closed_grows quote true n (b ∷ bs) =
     cond_both (b == 10) 0 (closed_at quote false (suc n) bs) (Grows n) (λ _. inl refl) (λ _. grows_from n _ (closed_grows quote false (suc n) bs))
@@ -35,7 +35,7 @@ one n = omega arith
 less_none : (r : ℕ) → r - 0 ≡ r
 less_none r = omega arith
 
-or_false : (x : Bool) → (x || false) ≡ x
+pub or_false : (x : Bool) → (x || false) ≡ x
 or_false true = refl
 or_false false = refl
 
@@ -101,7 +101,7 @@ and_no : (x : Bool) → (x && false) ≡ false
 and_no x = and_right x false refl
 
 -- of the tests of three prefixes one passes
-any_prefix : (x y z t : Bool) → (x || y || z) ≡ true → ((x && t) || ((y && t) || ((z && t) || false))) ≡ t
+pub any_prefix : (x y z t : Bool) → (x || y || z) ≡ true → ((x && t) || ((y && t) || ((z && t) || false))) ≡ t
 any_prefix true y z true some = refl
 any_prefix false true z true some = refl
 any_prefix false false true true some = refl
@@ -109,13 +109,13 @@ any_prefix false false false true some = some
 any_prefix x y z false some = rw (and_no x, and_no y, and_no z) refl
 
 -- none does
-no_prefix : (x y z t : Bool) → (x || y || z) ≡ false → ((x && t) || ((y && t) || ((z && t) || false))) ≡ false
+pub no_prefix : (x y z t : Bool) → (x || y || z) ≡ false → ((x && t) || ((y && t) || ((z && t) || false))) ≡ false
 no_prefix x y z t none =
     let parts = or_parts (x || y) z none in
     let front = or_parts x y parts.0 in
     rw (front.0, front.1, parts.1) refl
 
-is_wide-turned : (a : ℕ) → ((117 == a) || (85 == a) || (76 == a)) ≡ is_wide a
+pub is_wide-turned : (a : ℕ) → ((117 == a) || (85 == a) || (76 == a)) ≡ is_wide a
 is_wide-turned a = rw (flip a 117, flip a 85, flip a 76) refl
 
 no_quote : (quote a : ℕ) (xs : List ℕ) → (a == quote) ≡ false → is_quoted quote (a ∷ xs) ≡ false

@@ -1,11 +1,11 @@
 -- A token of C17 of two bytes or more lies in its class in every language.
-use Rattle.std.proofs.Common.{◌≡◌, ℕ, zero, suc, ◌-◌, ◌<◌, ◌≤◌, Bool, true, false, ◌&&◌, List, [], ◌∷◌, length, cond, nat_lt, ◌==◌, refl, sym, ap, ◌∙◌, subst, arith}
-use Rattle.std.proofs.lemmas.Bool.{and_from, and_parts, ltb-true}
+use Rattle.std.proofs.Common.{◌≡◌, ℕ, zero, suc, ◌-◌, ◌<◌, ◌≤◌, Bool, true, false, not, ◌&&◌, List, [], ◌∷◌, length, cond, nat_lt, ◌==◌, refl, sym, ap, ◌∙◌, subst, arith}
+use Rattle.std.proofs.lemmas.Bool.{and_from, and_parts, and_right, ltb-true, true≢false}
 use Rattle.inc_text.specs.declared.languages.Language.{Language}
 use Rattle.inc_text.specs.declared.languages.Language.TheVariants.{C17, Extended, Gnu}
 use Rattle.inc_token.specs.declared.kinds.Kind.{Kind}
 use Rattle.inc_token.specs.declared.kinds.Kind.TheVariants.{HeaderName, Identifier, Number, Char, Str, Punct, Other}
-use Rattle.inc_token.specs.Spellings.{is_digit, is_letter, is_exponent_letter, is_row, begins_number, universal_len, nondigit_len, identifier_part, number_part, is_identifier, is_number, is_spelling}
+use Rattle.inc_token.specs.Spellings.{is_digit, is_letter, is_exponent_letter, is_row, begins_number, universal_len, nondigit_len, identifier_part, number_part, is_identifier, is_lone, is_number, is_one_above, is_spelling}
 use Rattle.inc_token.specs.Scanning.{begins_with_sign}
 use Rattle.inc_token.proofs.Rows.{differs}
 use Rattle.inc_token.proofs.Words.{universal_other}
@@ -71,9 +71,9 @@ gnu_spelling Number text some h = gnu_number text h
 gnu_spelling Char text some h = h
 gnu_spelling Str text some h = h
 gnu_spelling Punct text some h = h
-gnu_spelling Other [] some h = h
+gnu_spelling Other [] some h = absurd (omega (arith, some))
 gnu_spelling Other (a ∷ []) some h = absurd (omega (arith, some))
-gnu_spelling Other (a ∷ b ∷ bs) some h = h
+gnu_spelling Other (a ∷ b ∷ bs) some h = absurd (true≢false (sym h ∙ and_right (not (is_one_above C17 (a ∷ b ∷ bs))) _ (and_right (is_lone (a ∷ b ∷ bs)) false refl)))
 
 extended_spelling : (kind : Kind) (text : List ℕ) → is_spelling C17 kind text ≡ true → is_spelling Extended kind text ≡ true
 extended_spelling HeaderName text h = h
@@ -82,9 +82,7 @@ extended_spelling Number text h = h
 extended_spelling Char text h = h
 extended_spelling Str text h = h
 extended_spelling Punct text h = h
-extended_spelling Other [] h = h
-extended_spelling Other (a ∷ []) h = h
-extended_spelling Other (a ∷ b ∷ bs) h = h
+extended_spelling Other text h = h
 
 pub spelled_anywhere : (language : Language) (kind : Kind) (text : List ℕ) → 2 ≤ length text → is_spelling C17 kind text ≡ true → is_spelling language kind text ≡ true
 spelled_anywhere C17 kind text some h = h

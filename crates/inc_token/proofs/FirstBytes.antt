@@ -1,21 +1,23 @@
 -- By the first byte of a text most classes are ruled out: `first_token` is the longest token.
-use Rattle.std.proofs.Common.{◌≡◌, ℕ, suc, ◌-◌, ◌<◌, ◌≤◌, Bool, true, false, ◌&&◌, ◌||◌, List, [], ◌∷◌, cond, nat_lt, ◌==◌, refl, sym, ◌∙◌, subst, arith, ⊎_elim}
-use Rattle.std.proofs.lemmas.Bool.{cond-true, cond-false, cond_both, cases_Bool, and_parts, and_right, or_parts, or_cases, or_from, lt-ltb, le-ltb, ltb-true, ltb-false, eqb-true}
+use Rattle.std.proofs.Common.{◌≡◌, ℕ, suc, ◌-◌, ◌+◌, ◌<◌, ◌≤◌, Bool, true, false, not, ◌&&◌, ◌||◌, List, [], ◌∷◌, take, cond, nat_lt, ◌==◌, refl, sym, ap, ◌∙◌, subst, arith, ⊎_elim, true≢false}
+use Rattle.std.proofs.lemmas.Bool.{cond-true, cond-false, cond_both, cases_Bool, and_cases, and_parts, and_right, or_parts, or_cases, or_from, lt-ltb, le-ltb, ltb-true, ltb-false, eqb-true}
 use Rattle.inc_token.specs.declared.kinds.Kind.{Kind}
 use Rattle.inc_token.specs.declared.kinds.Kind.TheVariants.{Identifier, Number, Char, Str, Punct, Other}
 use Rattle.inc_token.specs.declared.pieces.Piece.{Piece}
 use Rattle.inc_token.specs.declared.pieces.Piece.TheVariants.{Lexeme}
-use Rattle.inc_token.specs.Spellings.{begins_nondigit, is_digit, is_letter, nonletter_len, nondigit_len, identifier_part, number_part, begins_number, is_blank}
+use Rattle.inc_token.specs.Spellings.{begins_nondigit, is_digit, is_letter, is_lone, nonletter_len, nondigit_len, identifier_part, number_part, begins_number, is_blank}
 use Rattle.inc_token.specs.TokenLines.{longest_token, line_part}
-use Rattle.inc_token.specs.Scanning.{row_len, closed_at, quoted_len, is_wide, wide_str_len, punctuator_len, lexeme_or_other, wide_token}
+use Rattle.inc_token.specs.Scanning.{begins_quoted, begins_with_byte, row_len, closed_at, line_len, lone_len, quoted_len, is_wide, wide_lone_len, wide_str_len, punctuator_len, lexeme_or_other, literal_or_lone, wide_token}
+use Rattle.inc_text.specs.Languages.{is_gnu}
 use Rattle.inc_token.proofs.FrontPieces.{first_token}
 use Rattle.inc_token.proofs.Lengths.{identifier_len, number_len, char_len, str_len}
-use Rattle.inc_token.proofs.Rows.{differs, no_row, part_in_row}
+use Rattle.inc_token.proofs.Rows.{differs, line_from, no_row, part_in_row}
+use Rattle.inc_token.proofs.LoneQuotes.{lone_double, lone_prefixed, lone_single, none_double, none_on_line, none_other, none_plain, none_single, none_wide_char, none_wide_line, none_wide_str, none_word, quoted_byte}
 use Rattle.inc_token.proofs.Parts.{identifier_parts, number_parts}
 use Rattle.inc_token.proofs.Words.{nonletter_other, digit_no_nondigit, nondigit_in_row, first_is_part}
 use Rattle.inc_token.proofs.Closed.{Grows, quoted_grows}
 use Rattle.inc_token.proofs.Punctuators.{no_punctuator, lone_dot}
-use Rattle.inc_token.proofs.Tokens.{token_identifier, token_number, token_char, token_str, token_punctuator, token_other}
+use Rattle.inc_token.proofs.Tokens.{token_identifier, token_number, token_char, token_str, token_punctuator, token_lone, token_other}
 use Rattle.inc_text.specs.declared.languages.Language.{Language}
 
 pub no_wide : (f : ℕ → Bool) (b : ℕ) → f 117 ≡ false → f 85 ≡ false → f 76 ≡ false → f b ≡ true → is_wide b ≡ false
@@ -57,6 +59,7 @@ number_by language f b bs passes u v w q s word punct begins =
     let row = number_row language b bs begins in
     token_number language (b ∷ bs) (row_len (number_part language) 0 (b ∷ bs)) (cond-true (begins_number (b ∷ bs)) (row_len (number_part language) 0 (b ∷ bs)) 0 begins)
     row (no_identifier language (b ∷ bs) word) (no_char b bs wide (differs f 39 b q passes)) (no_str b bs wide (differs f 34 b s passes)) (omega arith)
+    (none_plain language b bs wide _ (differs f 39 b q passes) (differs f 34 b s passes))
 
 number_at_digit : (language : Language) (b : ℕ) (bs : List ℕ) → is_digit b ≡ true → begins_number (b ∷ bs) ≡ true
     → longest_token language (line_part (b ∷ bs)) ≡ Lexeme Number (row_len (number_part language) 0 (b ∷ bs))
@@ -108,14 +111,15 @@ quote_part language quote b bs digit letter other is =
     (cond-false (is_digit quote) 1 (nondigit_len language (quote ∷ bs)) digit ∙ no_nondigit language quote bs letter other)
 
 -- before a quote the row ends
+row_at_byte : (language : Language) (quote : ℕ) (bs : List ℕ) → is_digit quote ≡ false → is_letter quote ≡ false → begins_nondigit language quote ≡ false
+    → begins_with_byte quote bs ≡ true → row_len (identifier_part language) 0 bs ≡ 0
+row_at_byte language quote [] digit letter other is = refl
+row_at_byte language quote (b ∷ bs) digit letter other is =
+    no_row (identifier_part language) (identifier_parts language) (b ∷ bs) (quote_part language quote b bs digit letter other is)
+
 row_at_quote : (language : Language) (quote n : ℕ) (bs : List ℕ) → is_digit quote ≡ false → is_letter quote ≡ false → begins_nondigit language quote ≡ false
     → 0 < quoted_len quote n bs → row_len (identifier_part language) 0 bs ≡ 0
-row_at_quote language quote n [] digit letter other some = refl
-row_at_quote language quote n (b ∷ bs) digit letter other some =
-    ⊎_elim (λ (is : (b == quote) ≡ true). no_row (identifier_part language) (identifier_parts language) (b ∷ bs) (quote_part language quote b bs digit letter other is))
-    (λ (elsewhere : (b == quote) ≡ false).
-    absurd (omega (arith, some, cond-false (b == quote) (closed_at quote false (suc n) bs) 0 elsewhere)))
-    (cases_Bool (b == quote))
+row_at_quote language quote n bs digit letter other some = row_at_byte language quote bs digit letter other (quoted_byte quote n bs some)
 
 -- where a character constant is after the letter, no string literal does
 no_str_at_char : (b n : ℕ) (bs : List ℕ) → 0 < quoted_len 39 n bs → wide_str_len b bs ≡ 0
@@ -159,6 +163,39 @@ word_before_str language b (c ∷ cs) letter some =
     omega (arith, row, rest, more))
     some
 
+-- the line goes on after the word where a quote is behind the letter
+word_before_quote : (language : Language) (b : ℕ) (bs : List ℕ) → is_letter b ≡ true → begins_quoted b bs ≡ true → row_len (identifier_part language) 0 (b ∷ bs) < line_len (b ∷ bs)
+word_before_quote language b [] letter begins = absurd (true≢false (sym begins ∙ and_right (b == 117) false refl))
+word_before_quote language b (c ∷ cs) letter begins =
+    let row = row_of_one language b (c ∷ cs) (letter_part language b (c ∷ cs) letter) in
+    let size : line_len (b ∷ c ∷ cs) ≡ 1 + line_len (c ∷ cs) = cond-true (not (b == 10)) (1 + line_len (c ∷ cs)) 0 (ap not (differs is_letter 10 b refl letter)) in
+    ⊎_elim (λ (is : (c == 39) ≡ true). one 39 refl refl refl refl is row size)
+    (λ (rest : ((c == 34) || ((b == 117) && ((c == 56) && begins_with_byte 34 cs))) ≡ true).
+    ⊎_elim (λ (is : (c == 34) ≡ true). one 34 refl refl refl refl is row size)
+    (λ (third : ((b == 117) && ((c == 56) && begins_with_byte 34 cs)) ≡ true).
+    let u = and_parts (b == 117) ((c == 56) && begins_with_byte 34 cs) third in
+    let eight = and_parts (c == 56) (begins_with_byte 34 cs) u.1 in
+    let digit : is_digit c ≡ true = subst (λ x. is_digit x ≡ true) (sym (eqb-true c 56 eight.0)) refl in
+    let second = row_of_one language c cs (cond-true (is_digit c) 1 (nondigit_len language (c ∷ cs)) digit) in
+    let last = row_at_byte language 34 cs refl refl refl eight.1 in
+    let more : line_len (c ∷ cs) ≡ 1 + line_len cs = cond-true (not (c == 10)) (1 + line_len cs) 0 (ap not (differs is_digit 10 c refl digit)) in
+    omega (arith, row, second, last, size, more, some_byte 34 cs refl eight.1))
+    (or_cases (c == 34) ((b == 117) && ((c == 56) && begins_with_byte 34 cs)) rest))
+    (or_cases (c == 39) ((c == 34) || ((b == 117) && ((c == 56) && begins_with_byte 34 cs))) begins)
+  where
+    some_byte : (quote : ℕ) (text : List ℕ) → (10 == quote) ≡ false → begins_with_byte quote text ≡ true → 1 ≤ line_len text
+    some_byte quote [] apart is = cc
+    some_byte quote (d ∷ ds) apart is =
+        let more : line_len (d ∷ ds) ≡ 1 + line_len ds = cond-true (not (d == 10)) (1 + line_len ds) 0 (ap not (differs (λ x. x == quote) 10 d apart is)) in
+        omega (arith, more)
+
+    one : (quote : ℕ) → is_digit quote ≡ false → is_letter quote ≡ false → begins_nondigit language quote ≡ false → (10 == quote) ≡ false → (c == quote) ≡ true
+        → row_len (identifier_part language) 0 (b ∷ c ∷ cs) ≡ suc (row_len (identifier_part language) 0 (c ∷ cs)) → line_len (b ∷ c ∷ cs) ≡ 1 + line_len (c ∷ cs)
+        → row_len (identifier_part language) 0 (b ∷ c ∷ cs) < line_len (b ∷ c ∷ cs)
+    one quote digit letter' other apart is row size =
+        let rest = row_at_byte language quote (c ∷ cs) digit letter' other is in
+        omega (arith, row, rest, size, some_byte quote (c ∷ cs) apart is)
+
 -- a letter begins an identifier, as long as its row
 letter_word : (language : Language) (b : ℕ) (bs : List ℕ) → is_letter b ≡ true → (0 < row_len (identifier_part language) 0 (b ∷ bs)) × (identifier_len language (b ∷ bs) ≡ row_len (identifier_part language) 0 (b ∷ bs))
 letter_word language b bs letter =
@@ -168,7 +205,8 @@ letter_word language b bs letter =
     )
 
 at_wide : (language : Language) (b : ℕ) (bs : List ℕ) → begins_number (b ∷ bs) ≡ false → is_wide b ≡ true
-    → longest_token language (line_part (b ∷ bs)) ≡ wide_token (quoted_len 39 1 bs) (wide_str_len b bs) (row_len (identifier_part language) 0 (b ∷ bs))
+    → longest_token language (line_part (b ∷ bs))
+    ≡ wide_token (quoted_len 39 1 bs) (wide_str_len b bs) (wide_lone_len language (b ∷ bs)) (row_len (identifier_part language) 0 (b ∷ bs))
 at_wide language b bs begins wide =
     let text = b ∷ bs in
     let letter = wide_letter b wide in
@@ -181,21 +219,37 @@ at_wide language b bs begins wide =
     let str_is : str_len text ≡ str = cond-true (is_wide b) str (quoted_len 34 0 text) wide in
     let punct = no_punctuator is_wide b bs refl wide in
     let P : Piece → Type 0 = λ p. longest_token language (line_part text) ≡ p in
-    cond_both (nat_lt 0 char) (Lexeme Char char) (cond (nat_lt 0 str) (Lexeme Str str) (Lexeme Identifier row)) P
+    let lone = wide_lone_len language text in
+    let quoted = begins_quoted b bs in
+    let last = cond (nat_lt 0 lone) (Lexeme Other lone) (Lexeme Identifier row) in
+    cond_both (nat_lt 0 char) (Lexeme Char char) (cond (nat_lt 0 str) (Lexeme Str str) last) P
     (λ is.
     let some = ltb-true 0 char is in
     let shorter = word_before_char language b bs letter some in
-    token_char language text char char_is (omega (arith, word.1, shorter)) number (str_is ∙ no_str_at_char b 1 bs some) punct)
+    token_char language text char char_is (omega (arith, word.1, shorter)) number (str_is ∙ no_str_at_char b 1 bs some) punct
+    (none_wide_char language b bs wide some))
     (λ no_char_is.
     let none = ltb-false 0 char no_char_is in
-    cond_both (nat_lt 0 str) (Lexeme Str str) (Lexeme Identifier row) P
+    cond_both (nat_lt 0 str) (Lexeme Str str) last P
     (λ is.
     let some = ltb-true 0 str is in
     let shorter = word_before_str language b bs letter some in
-    token_str language text str str_is (omega (arith, word.1, shorter)) number (omega (arith, char_is, none)) punct)
+    token_str language text str str_is (omega (arith, word.1, shorter)) number (omega (arith, char_is, none)) punct (none_wide_str language b bs wide some))
     (λ no_str_is.
     let none' = ltb-false 0 str no_str_is in
-    token_identifier language text row word.1 word.0 number (omega (arith, char_is, none)) (omega (arith, str_is, none')) punct))
+    let no_char_here : char ≡ 0 = omega arith in
+    let no_str_here : str ≡ 0 = omega arith in
+    cond_both (quoted && is_gnu language) (line_len text) 0 (λ k. P (cond (nat_lt 0 k) (Lexeme Other k) (Lexeme Identifier row)))
+    (λ both.
+    let parts = and_parts quoted (is_gnu language) both in
+    let shorter = word_before_quote language b bs letter parts.0 in
+    subst P (sym (cond-true (nat_lt 0 (line_len text)) (Lexeme Other (line_len text)) (Lexeme Identifier row) (lt-ltb 0 (line_len text) (omega arith))))
+    (token_lone language text parts.1 (lone_prefixed language b bs wide parts.0 no_char_here no_str_here) (omega (arith, word.1, shorter)) number
+    (char_is ∙ no_char_here) (str_is ∙ no_str_here) punct (none_wide_line language b bs wide)))
+    (λ not_both.
+    token_identifier language text row word.1 word.0 number (char_is ∙ no_char_here) (str_is ∙ no_str_here) punct
+    (⊎_elim (λ (other : quoted ≡ false). none_word language b bs wide row other) (λ (other : is_gnu language ≡ false). none_other language text row other)
+    (and_cases quoted (is_gnu language) not_both)))))
 
 -- a token of the kind where its length is not 0, else one byte
 with_other : (language : Language) (text : List ℕ) (kind : Kind) (n : ℕ) → (0 < n → longest_token language (line_part text) ≡ Lexeme kind n)
@@ -203,6 +257,22 @@ with_other : (language : Language) (text : List ℕ) (kind : Kind) (n : ℕ) →
 with_other language text kind n some none =
     cond_both (nat_lt 0 n) (Lexeme kind n) (Lexeme Other 1) (λ p. longest_token language (line_part text) ≡ p)
     (λ is. some (ltb-true 0 n is)) (λ is. none (let le = ltb-false 0 n is in omega arith))
+
+-- a literal where its length is not 0, else its quote
+with_lone : (language : Language) (b : ℕ) (bs : List ℕ) (kind : Kind) (n : ℕ) → is_blank b ≡ false → (b == 10) ≡ false → is_wide b ≡ false → identifier_len language (b ∷ bs) ≡ 0
+    → number_len language (b ∷ bs) ≡ 0 → punctuator_len (b ∷ bs) ≡ 0 → (0 < n → longest_token language (line_part (b ∷ bs)) ≡ Lexeme kind n)
+    → (n ≡ 0 → (char_len (b ∷ bs) ≡ 0) × (str_len (b ∷ bs) ≡ 0) × (is_lone (take (line_len (b ∷ bs)) (b ∷ bs)) ≡ true))
+    → longest_token language (line_part (b ∷ bs)) ≡ literal_or_lone language kind n (b ∷ bs)
+with_lone language b bs kind n blank line wide word number punct some none =
+    let text = b ∷ bs in
+    let P : Piece → Type 0 = λ p. longest_token language (line_part text) ≡ p in
+    cond_both (nat_lt 0 n) (Lexeme kind n) (Lexeme Other (lone_len language text)) P (λ is. some (ltb-true 0 n is))
+    (λ is.
+    let zero' : n ≡ 0 = let le = ltb-false 0 n is in omega arith in
+    let rest = none zero' in
+    cond_both (is_gnu language) (line_len text) 1 (λ k. P (Lexeme Other k))
+    (λ gnu. token_lone language text gnu rest.2 (omega (arith, word, line_from b 0 bs line (omega arith))) number rest.0 rest.1 punct (none_on_line language b bs wide))
+    (λ other. token_other language b bs blank line word number rest.0 rest.1 punct (none_other language text 1 other)))
 
 at_word : (language : Language) (b : ℕ) (bs : List ℕ) → begins_number (b ∷ bs) ≡ false → is_wide b ≡ false → (is_letter b || begins_nondigit language b) ≡ true
     → is_blank b ≡ false → (b == 10) ≡ false
@@ -219,12 +289,13 @@ at_word language b bs begins wide first blank line =
     let one : identifier_len language text ≡ row =
     cond_both (nat_lt 0 (nondigit_len language text)) row 0 (λ n. n ≡ row) (λ _. refl)
     (λ is. let le = ltb-false 0 (nondigit_len language text) is in sym (no_row (identifier_part language) (identifier_parts language) text (omega (arith, part)))) in
-    with_other language text Identifier row (λ some. token_identifier language text row one some number char str punct)
-    (λ none. token_other language b bs blank line (one ∙ none) number char str punct)
+    with_other language text Identifier row
+    (λ some. token_identifier language text row one some number char str punct (none_plain language b bs wide row (differs f 39 b refl first) (differs f 34 b refl first)))
+    (λ none. token_other language b bs blank line (one ∙ none) number char str punct (none_plain language b bs wide 1 (differs f 39 b refl first) (differs f 34 b refl first)))
 
 at_double : (language : Language) (b : ℕ) (bs : List ℕ) → begins_number (b ∷ bs) ≡ false → is_wide b ≡ false → (is_letter b || begins_nondigit language b) ≡ false → (b == 34) ≡ true
     → is_blank b ≡ false → (b == 10) ≡ false
-    → longest_token language (line_part (b ∷ bs)) ≡ lexeme_or_other Str (closed_at 34 false 1 bs)
+    → longest_token language (line_part (b ∷ bs)) ≡ literal_or_lone language Str (closed_at 34 false 1 bs) (b ∷ bs)
 at_double language b bs begins wide first quote blank line =
     let text = b ∷ bs in
     let f = λ (x : ℕ). x == 34 in
@@ -235,12 +306,12 @@ at_double language b bs begins wide first quote blank line =
     let word = no_identifier language text (no_nondigit language b bs letter.0 letter.1) in
     let punct = no_punctuator f b bs refl quote in
     let str : str_len text ≡ n = cond-false (is_wide b) (wide_str_len b bs) (quoted_len 34 0 text) wide ∙ cond-true (b == 34) n 0 quote in
-    with_other language text Str n (λ some. token_str language text n str (omega (arith, word)) number char punct)
-    (λ none. token_other language b bs blank line word number char (str ∙ none) punct)
+    with_lone language b bs Str n blank line wide word number punct (λ some. token_str language text n str (omega (arith, word)) number char punct (none_double language b bs wide quote some))
+    (λ none. (char, str ∙ none, lone_double language b bs wide quote none))
 
 at_single : (language : Language) (b : ℕ) (bs : List ℕ) → begins_number (b ∷ bs) ≡ false → is_wide b ≡ false → (is_letter b || begins_nondigit language b) ≡ false → (b == 39) ≡ true
     → is_blank b ≡ false → (b == 10) ≡ false
-    → longest_token language (line_part (b ∷ bs)) ≡ lexeme_or_other Char (closed_at 39 false 1 bs)
+    → longest_token language (line_part (b ∷ bs)) ≡ literal_or_lone language Char (closed_at 39 false 1 bs) (b ∷ bs)
 at_single language b bs begins wide first quote blank line =
     let text = b ∷ bs in
     let f = λ (x : ℕ). x == 39 in
@@ -251,8 +322,8 @@ at_single language b bs begins wide first quote blank line =
     let word = no_identifier language text (no_nondigit language b bs letter.0 letter.1) in
     let punct = no_punctuator f b bs refl quote in
     let char : char_len text ≡ n = cond-false (is_wide b) (quoted_len 39 1 bs) (quoted_len 39 0 text) wide ∙ cond-true (b == 39) n 0 quote in
-    with_other language text Char n (λ some. token_char language text n char (omega (arith, word)) number str punct)
-    (λ none. token_other language b bs blank line word number (char ∙ none) str punct)
+    with_lone language b bs Char n blank line wide word number punct (λ some. token_char language text n char (omega (arith, word)) number str punct (none_single language b bs wide quote some))
+    (λ none. (char ∙ none, str, lone_single language b bs wide quote none))
 
 at_symbol : (language : Language) (b : ℕ) (bs : List ℕ) → begins_number (b ∷ bs) ≡ false → is_wide b ≡ false → (is_letter b || begins_nondigit language b) ≡ false
     → (b == 34) ≡ false → (b == 39) ≡ false → is_blank b ≡ false → (b == 10) ≡ false
@@ -264,8 +335,9 @@ at_symbol language b bs begins wide first double single blank line =
     let str = no_str b bs wide double in
     let letter = or_parts (is_letter b) (begins_nondigit language b) first in
     let word = no_identifier language text (no_nondigit language b bs letter.0 letter.1) in
-    with_other language text Punct (punctuator_len text) (λ some. token_punctuator language text (punctuator_len text) refl some word number char str)
-    (λ none. token_other language b bs blank line word number char str none)
+    with_other language text Punct (punctuator_len text)
+    (λ some. token_punctuator language text (punctuator_len text) refl some word number char str (none_plain language b bs wide (punctuator_len text) single double))
+    (λ none. token_other language b bs blank line word number char str none (none_plain language b bs wide 1 single double))
 
 pub first_token-is : (language : Language) (b : ℕ) (bs : List ℕ) → is_blank b ≡ false → (b == 10) ≡ false → longest_token language (line_part (b ∷ bs)) ≡ first_token language (b ∷ bs)
 first_token-is language b bs blank line =
@@ -273,14 +345,14 @@ first_token-is language b bs blank line =
     let word = row_len (identifier_part language) 0 text in
     let P : Piece → Type 0 = λ p. longest_token language (line_part text) ≡ p in
     let symbol = lexeme_or_other Punct (punctuator_len text) in
-    let single = cond (b == 39) (lexeme_or_other Char (closed_at 39 false 1 bs)) symbol in
-    let double = cond (b == 34) (lexeme_or_other Str (closed_at 34 false 1 bs)) single in
+    let single = cond (b == 39) (literal_or_lone language Char (closed_at 39 false 1 bs) text) symbol in
+    let double = cond (b == 34) (literal_or_lone language Str (closed_at 34 false 1 bs) text) single in
     let other = cond (is_letter b || begins_nondigit language b) (lexeme_or_other Identifier word) double in
-    let wide = wide_token (quoted_len 39 1 bs) (wide_str_len b bs) word in
+    let wide = wide_token (quoted_len 39 1 bs) (wide_str_len b bs) (wide_lone_len language text) word in
     cond_both (begins_number text) (Lexeme Number (row_len (number_part language) 0 text)) (cond (is_wide b) wide other) P (λ is. at_number language b bs is)
     (λ begins. cond_both (is_wide b) wide other P (λ is. at_wide language b bs begins is)
     (λ plain. cond_both (is_letter b || begins_nondigit language b) (lexeme_or_other Identifier word) double P (λ is. at_word language b bs begins plain is blank line)
-    (λ first. cond_both (b == 34) (lexeme_or_other Str (closed_at 34 false 1 bs)) single P (λ is. at_double language b bs begins plain first is blank line)
-    (λ not_double. cond_both (b == 39) (lexeme_or_other Char (closed_at 39 false 1 bs)) symbol P
+    (λ first. cond_both (b == 34) (literal_or_lone language Str (closed_at 34 false 1 bs) text) single P (λ is. at_double language b bs begins plain first is blank line)
+    (λ not_double. cond_both (b == 39) (literal_or_lone language Char (closed_at 39 false 1 bs) text) symbol P
     (λ is. at_single language b bs begins plain first is blank line)
     (λ not_single. at_symbol language b bs begins plain first not_double not_single blank line)))))

@@ -1,7 +1,7 @@
 -- A byte of the text that begins or ends with an LF of the source is an LF.
-use Rattle.std.proofs.Common.{◌≡◌, ℕ, suc, ◌+◌, ◌-◌, ◌<◌, ◌&&◌, cond, List, [], ◌∷◌, length, get_or, eqb, nat_lt, refl, sym, ap, ◌∙◌, subst, arith}
+use Rattle.std.proofs.Common.{◌≡◌, ℕ, zero, suc, ◌+◌, ◌-◌, ◌<◌, ◌&&◌, cond, List, [], ◌∷◌, length, drop, get_or, eqb, nat_lt, refl, sym, ap, ◌∙◌, subst, arith}
 use Rattle.std.proofs.lemmas.Bool.{cond_both, and_parts, eqb-true, ltb-true}
-use Rattle.inc_text.specs.PhaseText.{Cell, cells_from, joined, without_mark, with_new_lines, with_trigraphs, spliced, trigraph, is_trigraph}
+use Rattle.inc_text.specs.PhaseText.{Cell, cells_from, end_cells, joined, without_mark, with_new_lines, with_trigraphs, spliced, trigraph, is_trigraph}
 use Rattle.inc_text.proofs.PhaseLemmas.{trigraph-line_feed}
 use Rattle.inc_token.proofs.PhaseSeams.{phases}
 use Rattle.inc_text.specs.declared.languages.Language.{Language}
@@ -42,12 +42,18 @@ module _ (source : List ℕ) where
       ))
       (λ _. (h.0, honest_trigraphs language (b ∷ c ∷ r) h.1))
 
-  honest_spliced : (cells : List Cell) → AreHonest cells → AreHonest (spliced cells)
-  honest_spliced [] h = h
-  honest_spliced (a ∷ []) h = h
-  honest_spliced (a ∷ b ∷ r) h =
-      cond_both (eqb a.byte 92 && eqb b.byte 10) (spliced r) (a ∷ spliced (b ∷ r)) AreHonest
-      (λ _. honest_spliced r h.1.1) (λ _. (h.0, honest_spliced (b ∷ r) h.1))
+  honest_drop : (k : ℕ) (cells : List Cell) → AreHonest cells → AreHonest (drop k cells)
+  honest_drop zero cells h = h
+  honest_drop (suc k) [] h = h
+  honest_drop (suc k) (c ∷ cs) h = honest_drop k cs h.1
+
+  honest_spliced : (language : Language) (cells : List Cell) → AreHonest cells → AreHonest (spliced language cells)
+  honest_spliced language [] h = h
+  honest_spliced language (a ∷ r) h =
+      let rest = honest_spliced language r h.1 in
+      cond_both (eqb a.byte 92 && nat_lt 0 (end_cells language r)) (drop (end_cells language r) (spliced language r))
+      (a ∷ spliced language r) AreHonest
+      (λ _. honest_drop (end_cells language r) (spliced language r) rest) (λ _. (h.0, rest))
 
   pub honest_without_mark : (cells : List Cell) → AreHonest cells → AreHonest (without_mark cells)
   honest_without_mark [] h = h
@@ -58,7 +64,7 @@ module _ (source : List ℕ) where
       (λ _. h)
 
   pub honest_phases : (language : Language) (cells : List Cell) → AreHonest cells → AreHonest (phases language cells)
-  honest_phases language cells h = honest_spliced _ (honest_trigraphs language _ (honest_new_lines cells h))
+  honest_phases language cells h = honest_spliced language _ (honest_trigraphs language _ (honest_new_lines cells h))
 
   -- each byte for itself
   pub honest_from : (at line : ℕ) (bs : List ℕ) → ((i d : ℕ) → i < length bs

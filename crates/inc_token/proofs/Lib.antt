@@ -37,6 +37,7 @@ pub mod LineOrder
 pub mod OneClass
 pub mod OwnLines
 pub mod UnmatchedQuotes
+pub mod LoneQuotes
 pub mod WholeTokens
 pub mod KindCodes
 pub mod BegunText
@@ -45,6 +46,7 @@ pub mod BlankedBytes
 pub mod BlankedCells
 pub mod BlankedLines
 pub mod BlankedWalks
+pub mod ClosedText
 pub mod LinesInRows
 pub mod Ranges
 pub mod MemoryFaults

@@ -3,7 +3,7 @@ use Rattle.std.proofs.Common.{◌≡◌, ◌≢◌, ◌⊎◌, inl, inr, ℕ, �
 use Rattle.std.specs.List.{list_any, list_all}
 use Rattle.std.proofs.lemmas.Bool.{eqb-true, leb-true}
 use Rattle.std.proofs.lemmas.Slice.Eq.{bytes_eq-Decides}
-use Rattle.inc_token.specs.Spellings.{class_of, is_within, is_digit, is_letter, is_blank, is_one_above, is_identifier, is_number, is_char, is_str, is_punct, is_other, is_quoted, is_prefixed, is_spelling, punctuators, universal_len, is_dollar, nonletter_len, nondigit_len, begins_number, begins_with_hex}
+use Rattle.inc_token.specs.Spellings.{class_of, is_within, is_digit, is_letter, is_one_above, is_identifier, is_number, is_char, is_str, is_punct, is_other, is_quoted, is_prefixed, is_spelling, punctuators, universal_len, is_dollar, nonletter_len, nondigit_len, begins_number, begins_with_hex}
 use Rattle.inc_token.specs.declared.kinds.Kind.{Kind}
 use Rattle.inc_token.specs.declared.kinds.Kind.TheVariants.{HeaderName, Identifier, Number, Char, Str, Punct, Other}
 use Rattle.inc_text.specs.Languages.{is_gnu}
@@ -185,11 +185,8 @@ class_of-is language Punct text other h =
     let b = or_false (is_identifier language text || is_number language text) (is_char text) d.0 in
     let a = or_false (is_identifier language text) (is_number language text) b.0 in
     if_false (is_identifier language text) _ _ a.0 ∙ if_false (is_number language text) _ _ a.1 ∙ if_false (is_char text) _ _ b.1 ∙ if_false (is_str text) _ _ d.1 ∙ if_true (is_punct text) (Some Punct) _ h
-class_of-is language Other [] other h = cc
-class_of-is language Other (x ∷ y ∷ ys) other h = cc
-class_of-is language Other (x ∷ []) other h =
-    let text : List ℕ = x ∷ [] in
-    let above = (or_false (is_blank x || (x == 10)) (is_one_above language text) (fails (is_blank x || (x == 10) || is_one_above language text) h)).1 in
+class_of-is language Other text other h =
+    let above = fails (is_one_above language text) (and_left (not (is_one_above language text)) _ h) in
     let e = or_false (is_identifier language text || is_number language text || is_char text || is_str text) (is_punct text) above in
     let d = or_false (is_identifier language text || is_number language text || is_char text) (is_str text) e.0 in
     let b = or_false (is_identifier language text || is_number language text) (is_char text) d.0 in

@@ -7,7 +7,8 @@ use Rattle.std.proofs.lemmas.List.Sums.{prefix_len-le-length}
 use Rattle.std.proofs.lemmas.List.Folds.{length-prefix_len}
 use Rattle.std.proofs.lemmas.Bool.{eqb-true}
 use Rattle.std.proofs.lemmas.List.{length-drop}
-use Rattle.inc_token.specs.Spellings.{is_blank, is_one_above, is_identifier, is_number, is_char, is_str, is_punct, is_other, is_header_name}
+use Rattle.inc_token.specs.Spellings.{is_blank, is_one_above, is_identifier, is_number, is_char, is_str, is_punct, is_other, is_lone, is_header_name}
+use Rattle.inc_text.specs.Languages.{is_gnu}
 use Rattle.inc_token.specs.TokenLines.{longest_within, longest, is_token, longest_token, token_at, comment_rest, block_comment, line_comment, line_part, piece_at, piece_len}
 use Rattle.inc_token.specs.declared.kinds.Kind.TheVariants.{HeaderName, Identifier, Number, Char, Str, Punct, Other}
 use Rattle.inc_token.specs.declared.pieces.Piece.{Piece}
@@ -28,11 +29,11 @@ if_by P true x y p q = p refl
 if_by P false x y p q = q refl
 
 -- one byte that is no white space and no LF lies in a class
-not_any : (p q r : Bool) → p ≡ false → q ≡ false → r ≡ false → not (p || q || r) ≡ true
-not_any true q r a b c = cc
-not_any false true r a b c = cc
-not_any false false true a b c = cc
-not_any false false false a b c = refl
+mark_other : (p q r l : Bool) → p ≡ false → q ≡ false → r ≡ false → (not r && (not (p || q) || l)) ≡ true
+mark_other true q r l a b c = cc
+mark_other false true r l a b c = cc
+mark_other false false true l a b c = cc
+mark_other false false false l a b c = refl
 
 some_class : (a b c d e x : Bool) → ((a || b || c || d || e) ≡ false → x ≡ true)
     → is_some (if a then Some Identifier else if b then Some Number else if c then Some Char else if d then Some Str else if e then Some Punct else if x then Some Other else None) ≡ true
@@ -47,7 +48,7 @@ some_class false false false false false false h = h refl
 pub is_token-byte : (language : Language) (b : ℕ) → is_blank b ≡ false → (b == 10) ≡ false → is_token language (b ∷ []) ≡ true
 is_token-byte language b p q =
     some_class (is_identifier language (b ∷ [])) (is_number language (b ∷ [])) (is_char (b ∷ [])) (is_str (b ∷ [])) (is_punct (b ∷ [])) (is_other language (b ∷ []))
-    (not_any (is_blank b) (b == 10) (is_one_above language (b ∷ [])) p q)
+    (mark_other (is_blank b) (b == 10) (is_one_above language (b ∷ [])) (is_lone (b ∷ []) && is_gnu language) p q)
 
 -- the longest prefix that passes has a byte where the first byte alone passes
 longest_within-le : (test : List ℕ → Bool) (text : List ℕ) (n : ℕ) → longest_within test text n ≤ n

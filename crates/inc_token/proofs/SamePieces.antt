@@ -28,7 +28,7 @@ abbrev pub IsToken : Piece → Type 0
 IsToken (Lexeme kind n) = Unit {0}
 IsToken _ = ⊥
 
-token_is : (language : Language) (progress : Progress) (text : List ℕ) → IsToken (token_at language progress text)
+pub token_is : (language : Language) (progress : Progress) (text : List ℕ) → IsToken (token_at language progress text)
 token_is language AtStart text = tt
 token_is language AfterHash text = tt
 token_is language Elsewhere text = tt
@@ -200,7 +200,7 @@ abbrev pub goes_on : List ℕ → Bool
 goes_on [] = false
 goes_on (b ∷ bs) = on_line b
 
-ends_there : (front rest : List ℕ) → goes_on rest ≡ true → prefix_len on_line (front ++ rest) ≡ length front → ⊥
+pub ends_there : (front rest : List ℕ) → goes_on rest ≡ true → prefix_len on_line (front ++ rest) ≡ length front → ⊥
 ends_there [] [] on is = cc
 ends_there [] (b ∷ bs) on is = let e : 1 + prefix_len on_line bs ≡ 0 = sym (cond-true (on_line b) _ _ on)
     ∙ is in absurd (omega (arith, e))

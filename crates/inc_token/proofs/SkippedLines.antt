@@ -34,14 +34,14 @@ within_part : (n b : ℕ) (bs : List ℕ) (r : Skipped) → StopsWithin bs r →
 within_part zero b bs r h = omega arith
 within_part (suc n) b bs r h = within_further b bs r h
 
-stops_within : (left : ℕ) (text : List ℕ) → StopsWithin text (line_rest left text)
-stops_within zero [] = omega arith
-stops_within (suc left) [] = omega arith
-stops_within (suc left) (b ∷ bs) = within_further b bs (line_rest left bs) (stops_within left bs)
-stops_within zero (b ∷ bs) =
-    let n = skipped_len (b ∷ bs) in
-    cond_both (b == 10) (ToLineEnd 0) (skip_part n (line_rest (n - 1) bs)) (StopsWithin (b ∷ bs)) (λ _. omega arith)
-    (λ _. within_part n b bs (line_rest (n - 1) bs) (stops_within (n - 1) bs))
+stops_within : (language : Language) (left : ℕ) (text : List ℕ) → StopsWithin text (line_rest language left text)
+stops_within language zero [] = omega arith
+stops_within language (suc left) [] = omega arith
+stops_within language (suc left) (b ∷ bs) = within_further b bs (line_rest language left bs) (stops_within language left bs)
+stops_within language zero (b ∷ bs) =
+    let n = skipped_len language (b ∷ bs) in
+    cond_both (b == 10) (ToLineEnd 0) (skip_part n (line_rest language (n - 1) bs)) (StopsWithin (b ∷ bs)) (λ _. omega arith)
+    (λ _. within_part n b bs (line_rest language (n - 1) bs) (stops_within language (n - 1) bs))
 
 -- the lines from there on, once this is told of the first
 
@@ -63,18 +63,18 @@ ahead_further language b (ToOpenComment n) c cs = ap at_comment (drop-one n c cs
 
 -- after the n bytes of a piece
 over_piece : (language : Language) (b : Brief) (n : ℕ) (c : Cell) (cs : List Cell) (first : Result (Option FirstLine) LexFault) → 1 ≤ n
-    → line_rest 0 (bytes_of (c ∷ cs)) ≡ line_rest n (bytes_of (c ∷ cs)) → first ≡ ahead_at language b (line_rest (n - 1) (bytes_of cs)) cs
-    → first ≡ ahead_at language b (line_rest 0 (bytes_of (c ∷ cs))) (c ∷ cs)
+    → line_rest language 0 (bytes_of (c ∷ cs)) ≡ line_rest language n (bytes_of (c ∷ cs)) → first ≡ ahead_at language b (line_rest language (n - 1) (bytes_of cs)) cs
+    → first ≡ ahead_at language b (line_rest language 0 (bytes_of (c ∷ cs))) (c ∷ cs)
 over_piece language b zero c cs first pos over is = absurd (omega arith)
 over_piece language b (suc n) c cs first pos over is =
     let e : suc n - 1 ≡ n = omega arith in
-    is ∙ ap (λ k. ahead_at language b (line_rest k (bytes_of cs)) cs) e
-    ∙ ahead_further language b (line_rest n (bytes_of cs)) c cs ∙ ap (λ r. ahead_at language b r (c ∷ cs)) (sym over)
+    is ∙ ap (λ k. ahead_at language b (line_rest language k (bytes_of cs)) cs) e
+    ∙ ahead_further language b (line_rest language n (bytes_of cs)) c cs ∙ ap (λ r. ahead_at language b r (c ∷ cs)) (sym over)
 
-piece_skipped : (language : Language) (b : Brief) (space : Bool) (piece : Piece) (c : Cell) (cs : List Cell) → 1 ≤ piece_len piece → Agrees c.byte (bytes_of cs) piece
-    → ((left : ℕ) (space' : Bool) → first_from language (Known b) (lines_from language left Elsewhere space' cs) ≡ ahead_at language b (line_rest left (bytes_of cs)) cs)
+piece_skipped : (language : Language) (b : Brief) (space : Bool) (piece : Piece) (c : Cell) (cs : List Cell) → 1 ≤ piece_len piece → Agrees language c.byte (bytes_of cs) piece
+    → ((left : ℕ) (space' : Bool) → first_from language (Known b) (lines_from language left Elsewhere space' cs) ≡ ahead_at language b (line_rest language left (bytes_of cs)) cs)
     → first_from language (Known b) (with_piece space piece c cs (lines_from language (piece_len piece - 1) (progress_after language Elsewhere piece (bytes_of (c ∷ cs))) (is_space piece) cs))
-    ≡ ahead_at language b (line_rest 0 (bytes_of (c ∷ cs))) (c ∷ cs)
+    ≡ ahead_at language b (line_rest language 0 (bytes_of (c ∷ cs))) (c ∷ cs)
 piece_skipped language b space (Blank n) c cs pos agrees rest =
     let lines = lines_from language (n - 1) Elsewhere true cs in
     ap (first_from language (Known b)) (with_piece-blank space n c cs lines) ∙ over_piece language b n c cs (first_from language (Known b) lines) pos agrees (rest (n - 1) true)
@@ -87,10 +87,10 @@ piece_skipped language b space Unclosed c cs pos agrees rest =
     ap (first_from language (Known b)) (with_piece-open space c cs (lines_from language 0 AtStart false cs)) ∙ ap (λ r. ahead_at language b r (c ∷ cs)) (sym agrees)
 
 skipped : (language : Language) (b : Brief) (left : ℕ) (space : Bool) (cells : List Cell)
-    → first_from language (Known b) (lines_from language left Elsewhere space cells) ≡ ahead_at language b (line_rest left (bytes_of cells)) cells
+    → first_from language (Known b) (lines_from language left Elsewhere space cells) ≡ ahead_at language b (line_rest language left (bytes_of cells)) cells
 skipped language b zero space [] = refl
 skipped language b (suc left) space [] = refl
-skipped language b (suc left) space (c ∷ cs) = skipped language b left space cs ∙ ahead_further language b (line_rest left (bytes_of cs)) c cs
+skipped language b (suc left) space (c ∷ cs) = skipped language b left space cs ∙ ahead_further language b (line_rest language left (bytes_of cs)) c cs
 skipped language b zero space (c ∷ cs) =
     let text : List ℕ = bytes_of (c ∷ cs) in
     let piece : Piece = piece_at language Elsewhere text in
@@ -112,22 +112,22 @@ at_end-lf language b cells stop c cs is =
     ap (at_end language b) is ∙ ap (λ (rest : List Cell). first_with b (lines_from language 0 AtStart false rest)) (ap (drop 1) (sym is) ∙ drop-drop 1 stop cells)
 
 module _ (language : Language) (bytes : List ℕ) (cells : List Cell) (text : bytes ≡ bytes_of cells) where
-  known_at : (at : ℕ) (b : Brief) (r : Skipped) → line_rest 0 (drop at bytes) ≡ r → ahead language (Known b) (drop at cells) ≡ ahead_at language b r (drop at cells)
+  known_at : (at : ℕ) (b : Brief) (r : Skipped) → line_rest language 0 (drop at bytes) ≡ r → ahead language (Known b) (drop at cells) ≡ ahead_at language b r (drop at cells)
   known_at at b r is =
       let here : bytes_of (drop at cells) ≡ drop at bytes = sym (ap (drop at) text ∙ bytes_of-drop at cells) in
-      ahead-by language (Known b) false (drop at cells) ∙ skipped language b 0 false (drop at cells) ∙ ap (λ r'. ahead_at language b r' (drop at cells)) (ap (line_rest 0) here ∙ is)
+      ahead-by language (Known b) false (drop at cells) ∙ skipped language b 0 false (drop at cells) ∙ ap (λ r'. ahead_at language b r' (drop at cells)) (ap (line_rest language 0) here ∙ is)
 
   module _ (at stop : ℕ) where
-    module _ (is : ToLineEnd stop ≡ further at (line_rest 0 (drop at bytes))) where
+    module _ (is : ToLineEnd stop ≡ further at (line_rest language 0 (drop at bytes))) where
       pub end_within : at ≤ length bytes → (at ≤ stop) × (stop ≤ length bytes)
       end_within le =
-          let to = to_end at stop (line_rest 0 (drop at bytes)) is in
-          let within : to.0 ≤ length (drop at bytes) = subst (StopsWithin (drop at bytes)) to.1 (stops_within 0 (drop at bytes)) in
+          let to = to_end at stop (line_rest language 0 (drop at bytes)) is in
+          let within : to.0 ≤ length (drop at bytes) = subst (StopsWithin (drop at bytes)) to.1 (stops_within language 0 (drop at bytes)) in
           (omega (arith, to.2), omega (arith, to.2, within, length-drop at bytes))
 
       known_at-end : (b : Brief) → ahead language (Known b) (drop at cells) ≡ at_end language b (drop stop cells)
       known_at-end b =
-          let to = to_end at stop (line_rest 0 (drop at bytes)) is in
+          let to = to_end at stop (line_rest language 0 (drop at bytes)) is in
           known_at at b (ToLineEnd to.0) to.1 ∙ ap (at_end language b) (drop-drop to.0 at cells ∙ ap (λ k. drop k cells) to.2)
 
       -- after the LF
@@ -138,17 +138,17 @@ module _ (language : Language) (bytes : List ℕ) (cells : List Cell) (text : by
       pub text_over : (b : Brief) → length cells ≤ stop → ahead language (Known b) (drop at cells) ≡ Ok None
       text_over b le = known_at-end b ∙ ap (at_end language b) (drop_all stop cells le)
 
-    module _ (is : ToOpenComment stop ≡ further at (line_rest 0 (drop at bytes))) where
+    module _ (is : ToOpenComment stop ≡ further at (line_rest language 0 (drop at bytes))) where
       pub comment_within : stop < length bytes
       comment_within =
-          let to = to_comment at stop (line_rest 0 (drop at bytes)) is in
-          let within : to.0 < length (drop at bytes) = subst (StopsWithin (drop at bytes)) to.1 (stops_within 0 (drop at bytes)) in
+          let to = to_comment at stop (line_rest language 0 (drop at bytes)) is in
+          let within : to.0 < length (drop at bytes) = subst (StopsWithin (drop at bytes)) to.1 (stops_within language 0 (drop at bytes)) in
           omega (arith, to.2, within, length-drop at bytes)
 
       pub known-open : (b : Brief) (first last line : ℕ) → stop < length cells → option_map range_and_line (slice_get cells stop) ≡ Some (first, last, line)
           → ahead language (Known b) (drop at cells) ≡ Err (OpenComment line)
       known-open b first last line lt place =
-          let to = to_comment at stop (line_rest 0 (drop at bytes)) is in
+          let to = to_comment at stop (line_rest language 0 (drop at bytes)) is in
           let cell = cell_at cells stop lt in
           let from = line_at cells stop cell.0 first last line cell.3 place in
           let on : cell.0.line ≡ line = ap (λ (x : ℕ × ℕ × ℕ). x.2) from in

@@ -17,7 +17,7 @@ quote_by true n m r s h f = absurd (omega (arith, h))
 quote_by false n m r s h f = f h
 
 -- that it does not close does not hang on what its length is counted from
-same_none : (quote : ℕ) (escaped : Bool) (n m : ℕ) (text : List ℕ) → closed_at quote escaped n text ≡ 0 → closed_at quote escaped m text ≡ 0
+pub same_none : (quote : ℕ) (escaped : Bool) (n m : ℕ) (text : List ℕ) → closed_at quote escaped n text ≡ 0 → closed_at quote escaped m text ≡ 0
 same_none quote escaped n m [] h = refl
 same_none quote true n m (b ∷ bs) h = line_by (b == 10) _ _ h (same_none quote false (suc n) (suc m) bs)
 same_none quote false n m (b ∷ bs) h =

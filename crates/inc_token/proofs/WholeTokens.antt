@@ -1,10 +1,11 @@
 -- A text lies in a class where the token at its front is the whole of it.
-use Rattle.std.proofs.Common.{◌≡◌, ℕ, zero, suc, ◌+◌, ◌<◌, ◌≤◌, ◌==◌, ◌&&◌, ◌||◌, Bool, true, false, List, [], ◌∷◌, Option, Some, None, length, take, drop, refl, sym, ap, ◌∙◌, subst, arith, ⊎_elim, cond, is_some, unwrap_or, nat_lt}
+use Rattle.std.proofs.Common.{◌≡◌, ℕ, zero, suc, ◌+◌, ◌<◌, ◌≤◌, ◌==◌, ◌&&◌, ◌||◌, not, Bool, true, false, List, [], ◌∷◌, Option, Some, None, length, take, drop, refl, sym, ap, ◌∙◌, subst, arith, ⊎_elim, cond, is_some, unwrap_or, nat_lt}
 use Rattle.std.specs.List.{prefix_len}
 use Rattle.std.specs.Option.{option_map_or}
 use Rattle.std.proofs.Math.Seq.{take-length}
 use Rattle.std.proofs.lemmas.Bool.{cond-true, cond_both, cases_Bool, eqb-true, eqb-false, ltb-true, ltb-false}
-use Rattle.inc_token.specs.Spellings.{class_of, is_blank, is_identifier, is_number, is_char, is_str, is_punct, is_other}
+use Rattle.inc_token.specs.Spellings.{class_of, is_blank, is_identifier, is_number, is_char, is_str, is_punct, is_other, is_lone, is_one_above}
+use Rattle.inc_text.specs.Languages.{is_gnu}
 use Rattle.inc_token.specs.TokenLines.{is_token, longest, longest_within, longest_token, line_part, block_comment, line_comment, comment_rest, piece_at}
 use Rattle.inc_token.specs.Scanning.{begins_with_byte}
 use Rattle.inc_token.proofs.FrontPieces.{line_len, first_token}
@@ -16,12 +17,14 @@ use Rattle.inc_token.specs.declared.pieces.Piece.TheVariants.{Blank, NewLine, Un
 use Rattle.inc_token.specs.declared.pieces.Progress.TheVariants.{Elsewhere}
 use Rattle.inc_token.proofs.Closed.{longest_char, longest_str}
 use Rattle.inc_token.proofs.FirstBytes.{first_token-is}
+use Rattle.inc_token.proofs.LoneQuotes.{lone-on_line}
 use Rattle.inc_token.proofs.Longest.{IsLongest, take-line_part, length-line_part}
 use Rattle.inc_token.proofs.PieceBounds.{longest-le, and_left, and_right}
 use Rattle.inc_token.proofs.PieceTests.{piece_at-is}
 use Rattle.inc_token.proofs.Punctuators.{longest_punctuator}
 use Rattle.inc_token.proofs.Rows.{line_len-le, line_from}
 use Rattle.inc_token.proofs.Spelled.{longest-passes}
+use Rattle.inc_token.proofs.TextParts.{if_false}
 use Rattle.inc_token.proofs.Words.{longest_identifier, longest_number}
 use Rattle.inc_text.specs.declared.languages.Language.{Language}
 
@@ -62,7 +65,16 @@ no_lexeme (Some n) size = refl
 
 no_class : (language : Language) (t : List ℕ) → is_identifier language t ≡ false → is_number language t ≡ false → is_char t ≡ false → is_str t ≡ false → is_punct t ≡ false → is_other language t ≡ false
     → class_of language t ≡ None
-no_class language t i n c s p o = rw (i, n, c, s, p, o) refl
+no_class language t i n c s p o =
+    if_false (is_identifier language t) _ _ i ∙ if_false (is_number language t) _ _ n ∙ if_false (is_char t) _ _ c ∙ if_false (is_str t) _ _ s ∙ if_false (is_punct t) _ _ p
+    ∙ if_false (is_other language t) (Some Other) None o
+
+and_no : (s t : Bool) → t ≡ false → (s && t) ≡ false
+and_no true t h = h
+and_no false t h = refl
+
+both_no : (s t : Bool) → s ≡ false → (s && t) ≡ false
+both_no s t h = ap (λ x. x && t) h
 
 on_one_line : (language : Language) (b : ℕ) (bs : List ℕ) → (b == 10) ≡ false → line_len (b ∷ bs) < length (b ∷ bs) → class_of language (b ∷ bs) ≡ None
 on_one_line language b [] line lt = absurd (omega (arith, line_from b 0 [] line (omega arith)))
@@ -72,7 +84,8 @@ on_one_line language b (c ∷ cs) line lt =
     let within = is.within in
     subst (λ t. test t ≡ false) (take-length text) (is.fails (length text) (omega arith) (omega arith)) in
     no_class language text (fails (is_identifier language) _ (longest_identifier language text)) (fails (is_number language) _ (longest_number language text)) (fails is_char _ (longest_char text))
-    (fails is_str _ (longest_str text)) (fails is_punct _ (longest_punctuator text)) refl
+    (fails is_str _ (longest_str text)) (fails is_punct _ (longest_punctuator text))
+    (and_no (not (is_one_above language text)) _ (both_no (is_lone text) (is_gnu language) (lone-on_line b (c ∷ cs) lt)))
 
 -- the longest token at the front is the whole text where that lies in a class
 

@@ -1,7 +1,7 @@
 -- What the functions of the scanner compute, each from the front of a text, with 0 for a length where there is nothing of
 -- its kind. `piece_at` is proved to be what the definition says.
-use Rattle.std.specs.Prelude.{ℕ, zero, suc, ◌-◌, ◌==◌, ◌&&◌, ◌||◌, not, Bool, true, false, List, [], ◌∷◌, if◌then◌else◌, nat_lt}
-use Rattle.std.specs.List.{list_any}
+use Rattle.std.specs.Prelude.{ℕ, zero, suc, ◌-◌, ◌==◌, ◌&&◌, ◌||◌, not, Bool, true, false, List, [], ◌∷◌, if◌then◌else◌, drop, nat_lt}
+use Rattle.std.specs.List.{list_any, prefix_len}
 use Rattle.inc_text.specs.Ascii.{ampersand, apostrophe, asterisk, backslash, capital_l, capital_u, caret, close_brace, close_bracket, close_parenthesis, colon, comma, digit_eight, equals, exclamation_mark, full_stop, greater_than, hash, less_than, line_feed, minus, open_brace, open_bracket, open_parenthesis, percent, plus, question_mark, quotation_mark, semicolon, slash, small_u, tilde, vertical_bar}
 use Rattle.inc_token.specs.declared.kinds.Kind.{Kind}
 use Rattle.inc_token.specs.declared.kinds.Kind.TheVariants.{HeaderName, Identifier, Number, Char, Str, Punct, Other}
@@ -11,6 +11,7 @@ use Rattle.inc_token.specs.declared.pieces.Progress.{Progress}
 use Rattle.inc_token.specs.declared.pieces.Progress.TheVariants.{AfterInclude}
 use Rattle.inc_token.specs.TokenLines.{block_comment, line_comment}
 use Rattle.inc_token.specs.Spellings.{begins_nondigit, is_digit, is_letter, identifier_part, number_part, is_empty, punctuators}
+use Rattle.inc_text.specs.Languages.{is_gnu}
 use Rattle.inc_text.specs.declared.languages.Language.{Language}
 
 -- the length of the longest row of parts at the front; `left` is what is left of a part that began before
@@ -112,6 +113,14 @@ symbol_len a b c d =
     if is_assigned a then (if b == equals then 2 else 1) else
     if is_doubled a then (if (b == equals) || (b == a) then 2 else 1) else ungrouped_len a b c d
 
+-- how many bytes are before the next LF
+abbrev pub line_len : List ℕ → ℕ
+line_len text = prefix_len (λ b. not (b == line_feed)) text
+
+-- how many bytes a quote takes whose literal does not close: in GNU C the rest of its line
+abbrev pub lone_len : Language → List ℕ → ℕ
+lone_len language text = if is_gnu language then line_len text else 1
+
 -- the length of a header name of which n bytes are known, up to its closing delimiter and with it
 abbrev pub name_at : ℕ → ℕ → List ℕ → ℕ
 name_at close n [] = 0
@@ -127,14 +136,31 @@ header_name_len _ = 0
 abbrev pub lexeme_or_other : Kind → ℕ → Piece
 lexeme_or_other kind n = if nat_lt 0 n then Lexeme kind n else Lexeme Other 1
 
--- after u, U or L: the literal where there is one, else the identifier
-abbrev pub wide_token : ℕ → ℕ → ℕ → Piece
-wide_token char str word = if nat_lt 0 char then Lexeme Char char else if nat_lt 0 str then Lexeme Str str else Lexeme Identifier word
+-- a literal of n bytes, or its quote where it does not close
+abbrev pub literal_or_lone : Language → Kind → ℕ → List ℕ → Piece
+literal_or_lone language kind n text = if nat_lt 0 n then Lexeme kind n else Lexeme Other (lone_len language text)
 
 -- the byte is at the front
 abbrev pub begins_with_byte : ℕ → List ℕ → Bool
 begins_with_byte a [] = false
 begins_with_byte a (b ∷ bs) = b == a
+
+-- the quote of a literal is at the front, after a first byte a, which is u, U or L
+abbrev pub begins_quoted : ℕ → List ℕ → Bool
+begins_quoted a bs =
+    begins_with_byte apostrophe bs || (begins_with_byte quotation_mark bs || ((a == small_u) && (begins_with_byte digit_eight bs && begins_with_byte quotation_mark (drop 1 bs))))
+
+-- how many bytes a quote takes with such a prefix where its literal does not close: in GNU C the rest of the line, else none
+abbrev pub wide_lone_len : Language → List ℕ → ℕ
+wide_lone_len language [] = 0
+wide_lone_len language (a ∷ bs) = if begins_quoted a bs && is_gnu language then line_len (a ∷ bs) else 0
+
+-- after u, U or L: the literal where there is one, the lone quote where there is one, else the identifier
+abbrev pub wide_token : (char str lone word : ℕ) → Piece
+wide_token char str lone word =
+    if nat_lt 0 char then Lexeme Char char else
+    if nat_lt 0 str then Lexeme Str str else
+    if nat_lt 0 lone then Lexeme Other lone else Lexeme Identifier word
 
 -- . and a digit are at the front
 abbrev pub begins_with_point : List ℕ → Bool
@@ -155,7 +181,8 @@ word_token language [] = NewLine
 word_token language (b ∷ bs) =
     let word = row_len (identifier_part language) 0 (b ∷ bs) in
     if is_digit b then Lexeme Number (row_len (number_part language) 0 (b ∷ bs)) else
-    if is_wide b then wide_token (quoted_len apostrophe 1 bs) (wide_str_len b bs) word else lexeme_or_other Identifier word
+    if is_wide b then wide_token (quoted_len apostrophe 1 bs) (wide_str_len b bs) (wide_lone_len language (b ∷ bs)) word else
+    lexeme_or_other Identifier word
 
 -- `first_token` of a text that begins with another byte
 abbrev pub mark_token : Language → List ℕ → Piece
@@ -163,8 +190,9 @@ mark_token language [] = NewLine
 mark_token language (b ∷ bs) =
     if begins_with_point (b ∷ bs) then Lexeme Number (row_len (number_part language) 0 (b ∷ bs)) else
     if begins_nondigit language b then lexeme_or_other Identifier (row_len (identifier_part language) 0 (b ∷ bs)) else
-    if b == quotation_mark then lexeme_or_other Str (closed_at quotation_mark false 1 bs) else
-    if b == apostrophe then lexeme_or_other Char (closed_at apostrophe false 1 bs) else lexeme_or_other Punct (punctuator_len (b ∷ bs))
+    if b == quotation_mark then literal_or_lone language Str (closed_at quotation_mark false 1 bs) (b ∷ bs) else
+    if b == apostrophe then literal_or_lone language Char (closed_at apostrophe false 1 bs) (b ∷ bs) else
+    lexeme_or_other Punct (punctuator_len (b ∷ bs))
 
 -- the same, where a header name may count
 abbrev pub mark_by : Language → Progress → List ℕ → Piece

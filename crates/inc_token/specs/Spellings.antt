@@ -1,6 +1,7 @@
 -- Preprocessing tokens (ISO/IEC 9899:2018, 6.4): for each class, whether the whole of a text is spelled in it.
 -- Choices of this profile: bytes 128 to 255 are non-digits, a universal character name may have any value, escape
--- sequences are not checked, '' is a character constant, and a quote without a partner is a token by itself. In GNU C $ is a non-digit.
+-- sequences are not checked, '' is a character constant, and a quote without a partner is a token by itself. In GNU C it takes
+-- the rest of its line with it, and $ is a non-digit.
 use Rattle.std.specs.Prelude.{ℕ, zero, suc, ◌-◌, ◌==◌, ◌&&◌, ◌||◌, not, Bool, true, false, List, [], ◌∷◌, Option, Some, None, if◌then◌else◌, nat_lt, nat_le, codes, bytes_eq}
 use Rattle.std.specs.List.{list_any}
 use Rattle.inc_text.specs.Ascii.{apostrophe, backslash, blank, capital_a, capital_e, capital_f, capital_p, capital_u, capital_z, carriage_return, digit_nine, digit_zero, dollar, form_feed, full_stop, greater_than, less_than, line_feed, minus, plus, quotation_mark, small_a, small_e, small_f, small_p, small_u, small_z, tab, underscore, vertical_tab}
@@ -116,13 +117,21 @@ is_prefixed [] test text = test text
 is_prefixed (p ∷ ps) test [] = false
 is_prefixed (p ∷ ps) test (b ∷ bs) = (p == b) && is_prefixed ps test bs
 
+-- what may be before the ' of a character constant
+abbrev pub char_prefixes : List (List ℕ)
+char_prefixes = codes "" ∷ codes "u" ∷ codes "U" ∷ codes "L" ∷ []
+
+-- what may be before the " of a string literal
+abbrev pub str_prefixes : List (List ℕ)
+str_prefixes = codes "" ∷ codes "u8" ∷ codes "u" ∷ codes "U" ∷ codes "L" ∷ []
+
 -- 6.4.4.4: nothing or u, U, L, then ' and items and '
 abbrev pub is_char : List ℕ → Bool
-is_char text = list_any (λ prefix. is_prefixed prefix (is_quoted apostrophe) text) (codes "" ∷ codes "u" ∷ codes "U" ∷ codes "L" ∷ [])
+is_char text = list_any (λ prefix. is_prefixed prefix (is_quoted apostrophe) text) char_prefixes
 
 -- 6.4.5: nothing or u8, u, U, L, then " and items and "
 abbrev pub is_str : List ℕ → Bool
-is_str text = list_any (λ prefix. is_prefixed prefix (is_quoted quotation_mark) text) (codes "" ∷ codes "u8" ∷ codes "u" ∷ codes "U" ∷ codes "L" ∷ [])
+is_str text = list_any (λ prefix. is_prefixed prefix (is_quoted quotation_mark) text) str_prefixes
 
 -- 6.4.6
 abbrev pub punctuators : List (List ℕ)
@@ -148,10 +157,30 @@ is_blank b = (b == blank) || (b == tab) || (b == vertical_tab) || (b == form_fee
 abbrev pub is_one_above : Language → List ℕ → Bool
 is_one_above language text = is_identifier language text || is_number language text || is_char text || is_str text || is_punct text
 
--- one byte that is no white space, no LF, and in no class above
+-- one byte that is no white space and no LF
+abbrev pub is_mark : List ℕ → Bool
+is_mark (b ∷ []) = not (is_blank b || (b == line_feed))
+is_mark _ = false
+
+-- the items of a literal that nothing closes, on one line; `escaped` as above
+abbrev pub is_left_open : ℕ → Bool → List ℕ → Bool
+is_left_open quote escaped [] = true
+is_left_open quote true (b ∷ bs) = not (b == line_feed) && is_left_open quote false bs
+is_left_open quote false (b ∷ bs) = not ((b == quote) || (b == line_feed)) && is_left_open quote (b == backslash) bs
+
+-- a quote and items, without that quote
+abbrev pub is_unclosed : ℕ → List ℕ → Bool
+is_unclosed quote [] = false
+is_unclosed quote (b ∷ bs) = (b == quote) && is_left_open quote false bs
+
+-- a quote without a partner, with its prefix and with what is behind it on its line
+abbrev pub is_lone : List ℕ → Bool
+is_lone text =
+    list_any (λ prefix. is_prefixed prefix (is_unclosed apostrophe) text) char_prefixes || list_any (λ prefix. is_prefixed prefix (is_unclosed quotation_mark) text) str_prefixes
+
+-- what is in no class above: one byte, and in GNU C a lone quote
 abbrev pub is_other : Language → List ℕ → Bool
-is_other language (b ∷ []) = not (is_blank b || (b == line_feed) || is_one_above language (b ∷ []))
-is_other language _ = false
+is_other language text = not (is_one_above language text) && (is_mark text || (is_lone text && is_gnu language))
 
 -- the class in which the whole of the text lies. No text lies in two
 abbrev pub class_of : Language → List ℕ → Option Kind

@@ -17,7 +17,8 @@ pub enum Kind {
     Str,
     /// 6.4.6.
     Punct,
-    /// A byte that is no white space and begins none of the others.
+    /// A byte that is no white space and begins none of the others; in GNU C a quote without a partner, with its prefix and the rest of its
+    /// line, too.
     Other,
 }
 

@@ -1,10 +1,12 @@
 //! The graphs of examples.
-ghost use Rattle.std.specs.Prelude.{◌≡◌, ◌<◌, length, IfOk};
+ghost use Rattle.std.specs.Prelude.{◌≡◌, ◌<◌, length, IfOk, IsTrue};
 ghost use Rattle.std.specs.List.{All};
 ghost use Rattle.std.specs.List.Sorted.{IsStrictlyIncreasing};
+ghost use Rattle.inc_graph.specs.IncludeGraph.{are_rising};
+ghost use Rattle.inc_graph.specs.declared.building.Source.{Source};
 
 use inc_cut::Step;
-use inc_graph::{Cost, EdgeId, Fixed, Graph, LentMark, Mark, Setting};
+use inc_graph::{Cost, EdgeId, Fixed, Graph, LentMark, Mark, Setting, Source};
 use inc_lookup::{DirectiveId, FileId, HeldFiles, Project};
 use inc_text::Language;
 use std::alloc::Global;
@@ -33,6 +35,36 @@ fn files_named(
     Ok(files)
 }
 
+/// The same as sources that are read with the project's own include path.
+fn sources_named(
+    alloc: Global,
+    project: &Project<'_>,
+    first: &[u8],
+    other: &[u8],
+) -> Result<Vec<Source>, Stop>
+    ensures within { IfOk result (λ sources. All (λ (s : Source). s.file < length project.now.paths) sources.items) }
+    ensures own { IfOk result (λ sources. All (λ (s : Source). s.path < 1) sources.items) }
+    ensures rising { IfOk result (λ sources. IsTrue (are_rising sources.items)) }
+    ensures some { IfOk result (λ sources. 0 < length sources.items) }
+{
+    let first = file_of(project, first)?;
+    let mut sources = Vec::new(alloc);
+    sources.push(Source {
+        file: first,
+        path: 0,
+    })?;
+    if let Some(other) = project.file(other) {
+        if first.index() >= other.index() {
+            return Err(Stop);
+        }
+        sources.push(Source {
+            file: other,
+            path: 0,
+        })?;
+    }
+    Ok(sources)
+}
+
 /// The graph of the sources `m.c` and `n.c` and the headers `t.h` and `u.h`, of which the second may be missing.
 pub fn graph_of(
     alloc: Global,
@@ -41,10 +73,10 @@ pub fn graph_of(
 ) -> Result<Graph, Stop>
     ensures { IfOk result (λ graph. graph.files ≡ length project.now.paths) }
 {
-    let sources = files_named(alloc, project, b"m.c", b"n.c")?;
+    let sources = sources_named(alloc, project, b"m.c", b"n.c")?;
     let headers = files_named(alloc, project, b"t.h", b"u.h")?;
     let setting = Setting::new(alloc, 0, Language::C17, &[], &[])?;
-    let Ok(graph) = Graph::build(alloc, project, held, &sources, &headers, &setting) else {
+    let Ok(graph) = Graph::build(alloc, &*project, held, &sources, &headers, &setting) else {
         return Err(Stop);
     };
     if graph.files() != project.count() {

@@ -22,13 +22,14 @@
 //! | `held file` | what it holds | how many bytes are read |
 //! | `graph` | `@PATH` for each file, and what it holds | the graph of `m.c` and `t.h` with the search directories `inc`, `two` and `three`, files and edges by their numbers |
 //! | `graph of GNU C` | the same | the same of files of GNU C |
+//! | `graph of two include paths`, `.. of GNU C` | the same | the graph of `m.c` with these search directories and of `n.c`, or `m.c` again, with `four` and `inc`, and of `t.h` |
 //! | `marks` | `LINE PATH` | the mark of these, or `none` |
 //! | `out of memory` | none | the message of that fault |
 //!
 //! In place of an answer there may be a fault. Where the extended language gives another answer than C17, it follows after `extended:`.
 use crate::escapes::source_of;
 use crate::expansions::{CONDITION, COST, GNU_TEXT, TEXT, add_expansions};
-use crate::graphs::{add_graph, add_marks};
+use crate::graphs::{add_graph, add_marks, add_two_paths};
 use crate::lines::{
     add_first_run, add_kinds, add_links, add_outer_links, add_token_count, add_token_places,
     add_tokens,
@@ -61,6 +62,8 @@ pub fn add_answer(alloc: Global, example: &str, out: &mut Vec<u8>) -> Result<(),
         "project" => add_project(alloc, example, out),
         "graph" => add_graph(alloc, example, Language::C17, out),
         "graph of GNU C" => add_graph(alloc, example, Language::Gnu, out),
+        "graph of two include paths" => add_two_paths(alloc, example, Language::C17, out),
+        "graph of two include paths of GNU C" => add_two_paths(alloc, example, Language::Gnu, out),
         "marks" => add_marks(alloc, example, out),
         "held file" => add_held(alloc, source_of(alloc, example)?, out),
         "out of memory" => add_fault(alloc, out, FileFault::NoMemory),

@@ -2,8 +2,8 @@
 use crate::escapes::bytes_of;
 use crate::lookups::{held_file, project_of};
 use crate::printing::add_printed;
-use inc_graph::{BlockerKind, Edge, EdgeId, Graph, Mark, Setting, TwoWayGraph};
-use inc_lookup::{HeldFiles, SourceFile};
+use inc_graph::{BlockerKind, Edge, EdgeId, Graph, Mark, Setting, Source, TwoWayGraph};
+use inc_lookup::{HeldFiles, IncludePath, SourceFile};
 use inc_text::Language;
 use std::alloc::Global;
 use tests_parts::{Stop, add, add_number, number, refusing, split_word};
@@ -30,9 +30,26 @@ pub fn add_graph(
     out: &mut Vec<u8>,
 ) -> Result<(), Stop> {
     let graph = graph_of(alloc, &files_of(alloc, example)?, language)?;
-    let two_way = TwoWayGraph::new(alloc, &graph)?;
-    add_parts(alloc, &graph, &two_way, out)?;
-    add_chains(alloc, &graph, out)
+    add_graph_of(alloc, &graph, out)
+}
+
+/// Adds the graph of the sources `m.c`, and `n.c` or `m.c` again, and the header `t.h`: the first with the search directories `inc`, `two` and
+/// `three`, and the second with `four` and `inc`.
+pub fn add_two_paths(
+    alloc: Global,
+    example: &str,
+    language: Language,
+    out: &mut Vec<u8>,
+) -> Result<(), Stop> {
+    let graph = graph_of_two_paths(alloc, &files_of(alloc, example)?, language)?;
+    add_graph_of(alloc, &graph, out)
+}
+
+/// Adds a graph.
+fn add_graph_of(alloc: Global, graph: &Graph, out: &mut Vec<u8>) -> Result<(), Stop> {
+    let two_way = TwoWayGraph::new(alloc, graph)?;
+    add_parts(alloc, graph, &two_way, out)?;
+    add_chains(alloc, graph, out)
 }
 
 /// Adds the parts of a graph.
@@ -59,7 +76,47 @@ fn graph_of(alloc: Global, files: &[SourceFile], language: Language) -> Result<G
         return Err(Stop);
     };
     let setting = Setting::new(alloc, 0, language, &[], &[])?;
-    match Graph::build(alloc, &project, &mut held, &[source], &[header], &setting) {
+    let sources = [Source {
+        file: source,
+        path: 0,
+    }];
+    match Graph::build(alloc, &project, &mut held, &sources, &[header], &setting) {
+        Ok(graph) => Ok(graph),
+        Err(_) => Err(Stop),
+    }
+}
+
+fn graph_of_two_paths(
+    alloc: Global,
+    files: &[SourceFile],
+    language: Language,
+) -> Result<Graph, Stop> {
+    let mut held = HeldFiles { files };
+    let paths = held.paths(alloc)?;
+    let project = project_of(alloc, &paths)?;
+    let (Some(first), Some(header)) = (project.file(b"m.c"), project.file(b"t.h")) else {
+        return Err(Stop);
+    };
+    let second = project.file(b"n.c").unwrap_or(first);
+    if second.index() < first.index() {
+        return Err(Stop);
+    }
+    let Ok(other) = IncludePath::new(alloc, 0, &[b"four", b"inc"]) else {
+        return Err(Stop);
+    };
+    let others = [other];
+    let setting = Setting::new(alloc, 0, language, &[], &[])?.with_paths(&others);
+    let sources = [
+        Source {
+            file: first,
+            path: 0,
+        },
+        Source {
+            file: second,
+            path: 1,
+        },
+    ];
+    match Graph::build(alloc, &project, &mut held, &sources, &[header], &setting) {
         Ok(graph) => Ok(graph),
         Err(_) => Err(Stop),
     }

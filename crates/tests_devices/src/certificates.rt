@@ -43,6 +43,8 @@ fn checked(alloc: Global, parts: Parts<'_>) -> Result<(Result<EndKind, RunFault>
         without: &[],
         language: Language::C17,
         undefined: &[],
+        others: &[],
+        read_with: &[],
     };
     let limits = Limits {
         fixed: &[],

@@ -86,6 +86,8 @@ fn asked(
         without: &[],
         language: Language::C17,
         undefined: &[],
+        others: &[],
+        read_with: &[],
     };
     let out = Writing::new(&mut sink);
     let (outcome, _) = run_why(alloc, &project, &mut sources, &question, None, out);

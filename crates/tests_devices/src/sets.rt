@@ -100,6 +100,8 @@ fn answers(alloc: Global, row: &Row) -> Result<[Vec<u8>; 3], Fail> {
         without: &[],
         language: Language::C17,
         undefined: &[],
+        others: &[],
+        read_with: &[],
     };
     let limits = Limits {
         fixed: &[],

@@ -114,6 +114,8 @@ fn check_why(rt: &impl Abort, alloc: Global, project: &Project<'_>, files: &mut 
         without: &[],
         language: Language::C17,
         undefined: &[],
+        others: &[],
+        read_with: &[],
     };
     for room in 0..want.text.len() {
         let mut sink = Sink::new(alloc, room, 7);
@@ -143,6 +145,8 @@ fn check_blank(rt: &impl Abort, alloc: Global, project: &Project<'_>, files: Hel
         without: &[],
         language: Language::C17,
         undefined: &[],
+        others: &[],
+        read_with: &[],
     };
     let limits = Limits {
         fixed: &[],

@@ -1,10 +1,11 @@
-//! The `#include_next` directives of the files that are read: what each finds depends on how its file was found.
-ghost use Rattle.std.specs.Prelude.{◌≡◌, ◌<◌, ◌≤◌, [], length, replicate, slice_index_or, IfOk, OnOk};
+//! The `#include_next` directives of the files that are read: what each finds in an include path depends on how its file was found there.
+ghost use Rattle.std.specs.Prelude.{◌≡◌, ◌<◌, ◌≤◌, None, Some, length, option_map, replicate, slice_index_or, IfOk, OnOk};
 ghost use Rattle.std.specs.List.{slice_set};
 ghost use Rattle.inc_graph.specs.Nexts.{next_at, next_found, hits_from, is_past};
 
+use crate::building::lookups::Lookup;
 use crate::header_names::HeaderName;
-use inc_lookup::{FileId, Form, Found, Project};
+use inc_lookup::{FileId, Form, Found};
 use std::alloc::{AllocError, Global};
 use std::marker::Model;
 
@@ -34,18 +35,18 @@ impl Next {
     /// The one at this place of a file, with this header.
     pub(crate) fn new(
         alloc: Global,
-        project: &Project<'_>,
+        lookup: &Lookup<'_>,
         file: FileId,
         index: usize,
         header: HeaderName<'_>,
     ) -> Result<Next, AllocError>
-        requires { file < length project.now.paths }
+        requires { file < length lookup.now.paths }
         ensures { IfOk result (λ next. next
-            ≡ next_at project.now file index header.entry.form header.entry.name.now) }
+            ≡ next_at lookup.now file index header.entry.form header.entry.name.now) }
     {
         let HeaderName { form, name } = header;
-        let alone = project.find_from(alloc, file, form, None, name)?;
-        let hits = hits_of(alloc, project, file, form, name)?;
+        let alone = lookup.find_from(alloc, file, form, None, name)?;
+        let hits = hits_of(alloc, lookup, file, form, name)?;
         Ok(Next { index, alone, hits })
     }
 
@@ -84,18 +85,18 @@ fn is_past(hit: &Found, first: usize) -> bool
 /// What is found of a name in the directories of the include path, in their order: each of them is looked at once.
 fn hits_of(
     alloc: Global,
-    project: &Project<'_>,
+    lookup: &Lookup<'_>,
     file: FileId,
     form: Form,
     name: &[u8],
 ) -> Result<Vec<Found>, AllocError>
-    requires { file < length project.now.paths }
-    ensures { IfOk result (λ hits. hits.items ≡ hits_from project.now name.now 0) }
+    requires { file < length lookup.now.paths }
+    ensures { IfOk result (λ hits. hits.items ≡ hits_from lookup.now name.now 0) }
 {
     let mut hits = Vec::new(alloc);
     let mut left = Some(0);
     while let Some(first) = left {
-        match project.find_from(alloc, file, form, Some(first), name)? {
+        match lookup.find_from(alloc, file, form, Some(first), name)? {
             Some(found) => {
                 left = found.next;
                 hits.push(found)?;
@@ -106,57 +107,56 @@ fn hits_of(
     Ok(hits)
 }
 
-/// The `#include_next` directives of each file of a project. All files that are not read share one list.
+/// The `#include_next` directives of each file whose directives were looked up in an include path.
 #[derive(Drop)]
 pub(crate) struct NextLists {
-    /// For each file of the project the place of its list.
+    /// For each file of the project 1 plus the place of its list, or 0 where it has none.
     places: Vec<u32>,
-    /// First an empty one.
     lists: Vec<Vec<Next>>,
 }
 
 impl Model for NextLists {
-    ghost use Rattle.std.specs.Prelude.{◌<◌, List, length};
+    ghost use Rattle.std.specs.Prelude.{◌≤◌, List, Option, length};
     ghost use Rattle.std.specs.List.{All};
     ghost use Rattle.inc_graph.specs.Nexts.{Next, lists_at};
 
-    ghost Value = { List (List Next) };
+    ghost Value = { List (Option (List Next)) };
 
     ghost view = { λ n. lists_at n.lists.items n.places.items };
 
-    ghost invariant = { λ n. All (λ k. k < length n.lists.items) n.places.items };
+    ghost invariant = { λ n. All (λ k. k ≤ length n.lists.items) n.places.items };
 }
 
 impl NextLists {
-    /// Of so many files none has any.
+    /// Of so many files none was looked up.
     pub(crate) fn none(alloc: Global, count: usize) -> Result<NextLists, AllocError>
-        ensures { IfOk result (λ lists. lists ≡ replicate count []) }
+        ensures { IfOk result (λ lists. lists ≡ replicate count None) }
     {
-        let mut lists = Vec::new(alloc);
-        lists.push(Vec::new(alloc))?;
         Ok(NextLists {
             places: vec![in alloc; 0; count]?,
-            lists,
+            lists: Vec::new(alloc),
         })
     }
 
-    /// Those of a file.
-    pub(crate) fn of(&self, file: FileId) -> &[Next]
+    /// Those of a file, if its directives were looked up.
+    pub(crate) fn of(&self, file: FileId) -> Option<&[Next]>
         requires { file < length self.now }
-        ensures { result.now ≡ slice_index_or self.now file [] }
+        ensures { option_map (λ l. l.now) result ≡ slice_index_or self.now file None }
     {
-        &self.lists[self.places[file.index()] as usize]
+        let place = self.places[file.index()] as usize;
+        let list = self.lists.get(place.wrapping_sub(1))?;
+        Some(list)
     }
 
-    /// Keeps those of a file that is read now.
+    /// Keeps those of a file whose directives are looked up now.
     pub(crate) fn set(&mut self, file: FileId, nexts: Vec<Next>) -> Result<(), AllocError>
         requires { file < length self.old }
-        ensures { OnOk result (self.new ≡ slice_set self.old file nexts.items) }
+        ensures { OnOk result (self.new ≡ slice_set self.old file (Some nexts.items)) }
     {
+        self.lists.push(nexts)?;
         let Ok(place) = u32::try_from(self.lists.len()) else {
             return Err(AllocError);
         };
-        self.lists.push(nexts)?;
         self.places[file.index()] = place;
         Ok(())
     }

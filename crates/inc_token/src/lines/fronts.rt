@@ -188,7 +188,7 @@ impl<'a> Walk<'a> {
         ensures ends { IfOk result (λ ended. EndsLine self.old ended self.new) }
         ensures fault { IfErr result (λ fault. (b : Brief) → ahead_of (Known b) self.old ≡ Err fault) }
     {
-        match skip_line(self.bytes, self.at) {
+        match skip_line(self.language, self.bytes, self.at) {
             Skipped::ToLineEnd(stop) => {
                 if stop < self.bytes.len() {
                     self.at = stop + 1;

@@ -1,10 +1,11 @@
 //! What is between two delimiters on one line: literals and header names.
 ghost use Rattle.std.specs.Prelude.{◌≡◌, ◌+◌, ◌-◌, ◌<◌, ◌≤◌, false, length, drop, slice_index};
 ghost use Rattle.inc_text.specs.Ascii.{apostrophe, quotation_mark};
-ghost use Rattle.inc_token.specs.Scanning.{closed_at, quoted_len, name_at, header_name_len};
+ghost use Rattle.inc_token.specs.Scanning.{closed_at, quoted_len, lone_len, name_at, header_name_len};
 ghost use Rattle.inc_token.specs.UnmatchedQuotes.{NoneCloses, AreUnmatched, nothing_known};
 
 use super::comments;
+use inc_text::Language;
 use memchr::{memchr2, memchr3};
 
 /// The length from `start` of a literal whose items begin at a place, up to its closing quote and with it. It is 0 where
@@ -62,6 +63,19 @@ impl Unmatched {
             single: 0,
             double: 0,
         }
+    }
+}
+
+/// How many bytes a quote at a place takes whose literal does not close on its line: in GNU C the rest of that line. A prefix may be at the
+/// place in its stead.
+pub(super) fn lone_len(language: Language, text: &[u8], at: usize) -> usize
+    requires { at < length text.now }
+    ensures { result ≡ lone_len language (drop at text.now) }
+{
+    if language.is_gnu() {
+        comments::line_len(text, at)
+    } else {
+        1
     }
 }
 

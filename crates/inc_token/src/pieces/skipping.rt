@@ -2,12 +2,13 @@
 ghost use Rattle.std.specs.Prelude.{◌≡◌, ◌+◌, ◌<◌, ◌≤◌, IfSome, length, map, drop, slice_index};
 ghost use Rattle.std.specs.List.{prefix_len};
 ghost use Rattle.std.specs.Simd.Lanes.{mask_l};
-ghost use Rattle.inc_token.specs.Skipping.{is_stop, is_plain, byte_or, comment_len, skipped_len, further, line_rest};
+ghost use Rattle.inc_token.specs.Skipping.{is_stop, is_plain, literal_or_rest, comment_len, skipped_len, further, line_rest};
 ghost use Rattle.inc_token.specs.UnmatchedQuotes.{AreUnmatched};
 
 use super::identifiers::LANES;
-use super::literals::{Unmatched, char_len, str_len};
+use super::literals::{Unmatched, char_len, lone_len, str_len};
 use super::{Piece, comments, stands_at};
+use inc_text::Language;
 use std::simd::prelude::*;
 
 /// Where skipping a line ends.
@@ -68,12 +69,17 @@ fn skip_plain(text: &[u8], at: usize) -> usize
     skip_last_plain(text, at)
 }
 
-/// The length of a literal, or of one byte where there is none.
+/// The length of a literal, or what the quote at a place takes where that is 0.
 #[inline(always)]
-fn len_or_byte(len: usize) -> usize
-    ensures { result ≡ byte_or len }
+fn len_or_rest(language: Language, len: usize, text: &[u8], at: usize) -> usize
+    requires { at < length text.now }
+    ensures { result ≡ literal_or_rest language len (drop at text.now) }
 {
-    if len > 0 { len } else { 1 }
+    if len > 0 {
+        len
+    } else {
+        lone_len(language, text, at)
+    }
 }
 
 /// The length of a comment, 0 where it is not closed.
@@ -88,17 +94,19 @@ fn closed_comment_len(comment: Piece) -> usize
 }
 
 /// The length of the literal, the comment or else the byte at a place, 0 where a comment is not closed.
-fn part_len(text: &[u8], at: usize, unmatched: &mut Unmatched) -> usize
+fn part_len(language: Language, text: &[u8], at: usize, unmatched: &mut Unmatched) -> usize
     requires within { at < length text.now }
     requires unmatched { AreUnmatched unmatched.old at text.now }
-    ensures len { result ≡ skipped_len (drop at text.now) }
+    ensures len { result ≡ skipped_len language (drop at text.now) }
     ensures unmatched { AreUnmatched unmatched.new at text.now }
 {
     let first = text[at];
     if first == b'"' {
-        len_or_byte(str_len(text, at, unmatched))
+        let len = str_len(text, at, unmatched);
+        len_or_rest(language, len, text, at)
     } else if first == b'\'' {
-        len_or_byte(char_len(text, at, unmatched))
+        let len = char_len(text, at, unmatched);
+        len_or_rest(language, len, text, at)
     } else if first == b'/' && stands_at(text, at + 1, b'*') {
         closed_comment_len(comments::block(text, at))
     } else if first == b'/' && stands_at(text, at + 1, b'/') {
@@ -111,14 +119,14 @@ fn part_len(text: &[u8], at: usize, unmatched: &mut Unmatched) -> usize
 /// Where a line ends of which no token is wanted from a place on, at which no token goes on. It is a function of its own for
 /// lines with a quote or a slash, so that the loop over these costs the others nothing.
 #[inline(never)]
-fn skip_line_parts(text: &[u8], at: usize) -> Skipped
+fn skip_line_parts(language: Language, text: &[u8], at: usize) -> Skipped
     requires { at ≤ length text.now }
-    ensures { result ≡ further at (line_rest 0 (drop at text.now)) }
+    ensures { result ≡ further at (line_rest language 0 (drop at text.now)) }
 {
     let mut unmatched = Unmatched::none();
     let mut at = at;
     while at < text.len() && text[at] != b'\n' {
-        let len = part_len(text, at, &mut unmatched);
+        let len = part_len(language, text, at, &mut unmatched);
         if len == 0 {
             return Skipped::ToOpenComment(at);
         }
@@ -129,13 +137,13 @@ fn skip_line_parts(text: &[u8], at: usize) -> Skipped
 
 /// Where a line ends of which no token is wanted from a place on, at which no token goes on.
 #[inline(always)]
-pub fn skip_line(text: &[u8], at: usize) -> Skipped
+pub fn skip_line(language: Language, text: &[u8], at: usize) -> Skipped
     requires { at ≤ length text.now }
-    ensures { result ≡ further at (line_rest 0 (drop at text.now)) }
+    ensures { result ≡ further at (line_rest language 0 (drop at text.now)) }
 {
     let end = skip_plain(text, at);
     if end < text.len() && text[end] != b'\n' {
-        return skip_line_parts(text, end);
+        return skip_line_parts(language, text, end);
     }
     Skipped::ToLineEnd(end)
 }

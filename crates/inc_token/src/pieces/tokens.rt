@@ -1,12 +1,12 @@
 //! The token at a place.
 ghost use Rattle.std.specs.Prelude.{◌≡◌, ◌+◌, ◌<◌, ◌≤◌, length, drop, slice_index};
 ghost use Rattle.inc_token.specs.Spellings.{identifier_part};
-ghost use Rattle.inc_token.specs.Scanning.{row_len, quoted_len, is_wide, may_quote, wide_str_len, lexeme_or_other, wide_token, begins_with_point, word_token, mark_token, mark_by};
+ghost use Rattle.inc_token.specs.Scanning.{row_len, quoted_len, is_wide, may_quote, wide_str_len, begins_quoted, lexeme_or_other, literal_or_lone, wide_lone_len, wide_token, begins_with_point, word_token, mark_token, mark_by};
 ghost use Rattle.inc_token.specs.UnmatchedQuotes.{AreUnmatched};
 ghost use Rattle.inc_text.specs.Ascii.{apostrophe};
 
 use super::literals::Unmatched;
-use super::{Piece, Progress, identifiers, literals, punctuators};
+use super::{Piece, Progress, comments, identifiers, literals, punctuators, stands_at};
 use crate::kinds::Kind;
 use inc_text::Language;
 
@@ -18,6 +18,18 @@ fn lexeme_or_byte(kind: Kind, len: usize) -> Piece
         Piece::Lexeme(kind, len)
     } else {
         Piece::Lexeme(Kind::Other, 1)
+    }
+}
+
+/// A literal of so many bytes, or the quote at a place where that is 0.
+fn literal_or_quote(language: Language, kind: Kind, len: usize, text: &[u8], at: usize) -> Piece
+    requires { at < length text.now }
+    ensures { result ≡ literal_or_lone language kind len (drop at text.now) }
+{
+    if len > 0 {
+        Piece::Lexeme(kind, len)
+    } else {
+        Piece::Lexeme(Kind::Other, literals::lone_len(language, text, at))
     }
 }
 
@@ -57,13 +69,35 @@ fn may_quote(text: &[u8], at: usize) -> bool
     at < text.len() && matches!(text[at], b'"' | b'\'' | b'8')
 }
 
+/// Whether these bytes, which are behind a letter u, U or L, begin with the quote of its literal.
+fn is_quoted(letter: u8, behind: &[u8]) -> bool
+    ensures { result ≡ begins_quoted letter behind.now }
+{
+    stands_at(behind, 0, b'\'')
+        || stands_at(behind, 0, b'"')
+        || letter == b'u' && stands_at(behind, 0, b'8') && stands_at(behind, 1, b'"')
+}
+
+/// How many bytes the quote behind the letter at a place takes with that letter, where its literal does not close: in GNU C the rest of the
+/// line, else none.
+fn prefixed_lone_len(language: Language, text: &[u8], at: usize) -> usize
+    requires { at < length text.now }
+    ensures { result ≡ wide_lone_len language (drop at text.now) }
+{
+    if is_quoted(text[at], &text[at + 1..]) && language.is_gnu() {
+        comments::line_len(text, at)
+    } else {
+        0
+    }
+}
+
 /// The token at a place where u, U or L is. Most are words, which the next byte shows.
 #[inline(always)]
 fn prefixed(language: Language, text: &[u8], at: usize) -> Piece
     requires { at < length text.now }
     ensures { let behind = drop (at + 1) text.now in
         result ≡ wide_token (quoted_len apostrophe 1 behind) (wide_str_len (slice_index text.now at) behind)
-        (row_len (identifier_part language) 0 (drop at text.now)) }
+        (wide_lone_len language (drop at text.now)) (row_len (identifier_part language) 0 (drop at text.now)) }
 {
     if may_quote(text, at + 1) {
         return literal_or_word(language, text, at);
@@ -76,7 +110,7 @@ fn literal_or_word(language: Language, text: &[u8], at: usize) -> Piece
     requires { at < length text.now }
     ensures { let behind = drop (at + 1) text.now in
         result ≡ wide_token (quoted_len apostrophe 1 behind) (wide_str_len (slice_index text.now at) behind)
-        (row_len (identifier_part language) 0 (drop at text.now)) }
+        (wide_lone_len language (drop at text.now)) (row_len (identifier_part language) 0 (drop at text.now)) }
 {
     let char = literals::quoted(text, at, at + 1, b'\'');
     if char > 0 {
@@ -85,6 +119,10 @@ fn literal_or_word(language: Language, text: &[u8], at: usize) -> Piece
     let str = prefixed_str_len(text, at);
     if str > 0 {
         return Piece::Lexeme(Kind::Str, str);
+    }
+    let lone = prefixed_lone_len(language, text, at);
+    if lone > 0 {
+        return Piece::Lexeme(Kind::Other, lone);
     }
     Piece::Lexeme(Kind::Identifier, identifiers::word_len(language, text, at))
 }
@@ -119,9 +157,11 @@ fn plain_mark(language: Language, text: &[u8], at: usize, unmatched: &mut Unmatc
     } else if identifiers::begins_nondigit(language, first) {
         lexeme_or_byte(Kind::Identifier, identifiers::word_len(language, text, at))
     } else if first == b'"' {
-        lexeme_or_byte(Kind::Str, literals::str_len(text, at, unmatched))
+        let len = literals::str_len(text, at, unmatched);
+        literal_or_quote(language, Kind::Str, len, text, at)
     } else if first == b'\'' {
-        lexeme_or_byte(Kind::Char, literals::char_len(text, at, unmatched))
+        let len = literals::char_len(text, at, unmatched);
+        literal_or_quote(language, Kind::Char, len, text, at)
     } else {
         lexeme_or_byte(Kind::Punct, punctuators::symbol_at(text, at))
     }

@@ -1,11 +1,11 @@
-use Rattle.std.proofs.Common.{◌≡◌, ℕ, List, [], None, Ok, Some, true, false, ap, refl, rules, subst}
+use Rattle.std.proofs.Common.{◌≡◌, None, Ok, Some, true, false, ap, refl, rules, subst}
 use Rattle.std.specs.Io.KnownBytes.{Keeps}
 use Rattle.inc_args.specs.Views.{seen_limits, seen_question}
 use Rattle.inc_cli.specs.Runs.{asked_by, asked_with, list_names}
 use Rattle.inc_cli.specs.Outputs.{IsRun}
 use Rattle.inc_cli.specs.Questions.{IsAnswered, IsKnown}
 use Rattle.inc_cli.specs.Views.{output_of, seen_command, seen_end}
-use Rattle.inc_inputs.specs.BuildProjects.{words_of_question}
+use Rattle.inc_inputs.specs.BuildProjects.{Added, none_added, words_of_question}
 use Rattle.inc_inputs.specs.BuildSteps.{found_if}
 use Rattle.inc_inputs.specs.Reports.{input_twice, report_of}
 use Rattle.inc_inputs.specs.Steps.{next_of, then}
@@ -51,13 +51,13 @@ returns-in-Ok-None g c known not =
     let answer = seen_end c.ask_read.result.0 in
     let texts = seen_texts c.read_texts-texts.result in
     let mid = c.read_texts-texts.new.inputs in
-    let asked : IsRun (next_of (asked_by language command q l []) texts) P mid out answer =
-    subst (λ (ns : List ℕ). IsRun (next_of (asked_by language command q l ns) texts) P mid out answer) c.new-notes.ensures.items (c.ask_read.ensures known not) in
+    let asked : IsRun (next_of (asked_by language command q l none_added) texts) P mid out answer =
+    subst (λ (a : Added). IsRun (next_of (asked_by language command q l a) texts) P mid out answer) c.none-added.ensures (c.ask_read.ensures known not) in
     let none : seen_project c.find_question.result ≡ Ok None = search rules in
     run_unless _ input_twice (then (found_if gives q.files (words_of_question q)) next) _ _ _ _ once
     (run_then (found_if gives q.files (words_of_question q)) next _ _ c.find_question.new.inputs _ _ (seen_project c.find_question.result) None
     none c.find_question.ensures
-    (run_read (texts_of gives q l) (asked_by language command q l []) P _ mid out answer texts c.read_texts-texts.ensures not asked))
+    (run_read (texts_of gives q l) (asked_by language command q l none_added) P _ mid out answer texts c.read_texts-texts.ensures not asked))
 
 pub returns-in-Err : goal.returns-in-Err
 returns-in-Err g c known not =

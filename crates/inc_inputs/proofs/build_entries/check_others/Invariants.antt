@@ -7,7 +7,7 @@ use Rattle.inc_inputs.proofs.build_entries.check_others.Given as goal
 abbrev pub invariant-loop-at : goal.invariant-loop-at
 invariant-loop-at l =
     (l.at ≤ length l.others)
-    × (others_fault (ground_in l.ground) l.has_macros l.first (drop l.at l.others) ≡ others_fault (ground_in l.ground) l.has_macros l.first l.others)
+    × (others_fault (ground_in l.ground) l.first (drop l.at l.others) ≡ others_fault (ground_in l.ground) l.first l.others)
 
 abbrev pub decreases-loop-at : goal.decreases-loop-at
 decreases-loop-at l = length l.others - l.at

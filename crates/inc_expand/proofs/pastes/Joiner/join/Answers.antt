@@ -16,7 +16,8 @@ pub returns-clause-pasted : goal.returns-clause-pasted
 returns-clause-pasted c =
     pasted-made c.args.self.now.rule c.args.sets.now c.set_of_paste.new.sets c.opened.new.self.text.items _ (c.in-Some.set, c.in-Some.space) (carrier c.args.sets.now c.args.token) c.in_ok-kind.kind c.in_ok-set-2.set c.lengthen.new.text.items
     (subst (IsOpened c.args.sets.now c.opened.new.self.text.items (before_of c.args.sets.now c.args.self.now.text.items c.args.self.now.before)) c.in-Some.is (c.in_ok-set.ensures.opened c.args.sets.now))
-    (ap (λ t. made_kind (c.opened.new.self.text.items ++ t)) (sym c.bytes.ensures) ∙ c.in_ok-kind.ensures.kind)
+    (ap (λ (rule : Rule). made_kind rule (c.opened.new.self.text.items ++ (carrier c.args.sets.now c.args.token).spelling)) (sym (ap (λ (j : Joiner). j.rule) c.opened.ensures.same))
+    ∙ ap (λ t. made_kind c.opened.new.self.rule (c.opened.new.self.text.items ++ t)) (sym c.bytes.ensures) ∙ c.in_ok-kind.ensures.kind)
     (c.in_ok-kind.ensures.text ∙ ap (λ t. c.opened.new.self.text.items ++ t) c.bytes.ensures)
     (λ n. c.in_ok-set-2.ensures.members n
     ∙ ap (λ (rule : Rule). hidden_by_paste rule (holds c.args.sets.now c.in-Some.set) (holds c.args.sets.now c.args.token.set) n) (ap (λ (j : Joiner). j.rule) c.opened.ensures.same))

@@ -5,12 +5,12 @@ use Rattle.inc_graph.proofs.building.nexts.hits_of.Goals as goal
 
 pub loop-left-smaller-in-Continue-branch-3 : goal.loop-left-smaller-in-Continue-branch-3
 loop-left-smaller-in-Continue-branch-3 c =
-    smaller c.args.project.now (path_at c.args.project.now c.args.file) c.args.form c.args.name.now c.loop-left.left c.in-Some.first c.in-Some.is c.loop-left.invariant.within
+    smaller c.args.lookup.now (path_at c.args.lookup.now c.args.file) c.args.form c.args.name.now c.loop-left.left c.in-Some.first c.in-Some.is c.loop-left.invariant.within
     c.in-Some-2.found (sym c.in_ok-found.ensures.found ∙ c.in-Some-2.is)
 
 pub loop-left-preserved-in-Continue-branch-3 : goal.loop-left-preserved-in-Continue-branch-3
 loop-left-preserved-in-Continue-branch-3 c =
-    let layout = c.args.project.now in
+    let layout = c.args.lookup.now in
     let found = sym c.in_ok-found.ensures.found ∙ c.in-Some-2.is in
     record {
       all = hit_pushed layout (path_at layout c.args.file) c.args.form c.args.name.now c.loop-left.left c.in-Some.first c.in-Some.is c.loop-left.invariant.within
@@ -20,7 +20,7 @@ loop-left-preserved-in-Continue-branch-3 c =
 
 pub loop-left-preserved : goal.loop-left-preserved
 loop-left-preserved c =
-    let layout = c.args.project.now in
+    let layout = c.args.lookup.now in
     record {
       all = no_hit layout (path_at layout c.args.file) c.args.form c.args.name.now c.loop-left.left c.in-Some.first c.in-Some.is c.loop-left.invariant.within
           c.loop-left.hits.items _ (sym c.in_ok-found.ensures.found ∙ c.in-None.is) c.loop-left.invariant.all;

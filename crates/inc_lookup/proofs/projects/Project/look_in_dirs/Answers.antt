@@ -5,23 +5,19 @@ use Rattle.inc_lookup.proofs.PathSearch.{found_here, found_on}
 use Rattle.inc_lookup.proofs.projects.Project.look_in_dirs.Goals as goal
 
 pub look_at-requires : goal.look_at-requires
-look_at-requires c = rw c.path-dir.ensures (c.self.invariant.dirs_normal c.loop-index.index [] (search rules))
+look_at-requires c = c.dir-dir.ensures.normal
 
 pub returns-in-Some-clause-found : goal.returns-in-Some-clause-found
 returns-in-Some-clause-found c = λ text r relative.
-    let low : c.loop-index.index < length c.args.self.now.dirs = rw (← c.self.view_is) (search rules) in
-    let dir : get_or c.args.self.now.dirs c.loop-index.index [] ≡ c.path-dir.result.now =
-    rw (← c.self.view_is) (sym c.path-dir.ensures) in
+    let low : c.loop-index.index < length c.args.dirs.now = search rules in
     let found = sym (c.in_ok-found.ensures.found text r (λ absolute. absurd (both_ways (is_absolute text) relative absolute))) ∙ c.in-Some.is in
-    sym (found_here c.args.self.now.paths c.args.self.now.dirs c.path-dir.result.now c.loop-index.index text c.in-Some.found low dir found)
+    sym (found_here c.args.self.now.paths c.args.dirs.now c.dir-dir.result.now c.loop-index.index text c.in-Some.found low (sym c.dir-dir.ensures.dir) found)
     ∙ c.loop-index.invariant text r relative
 
 pub loop-index-preserved : goal.loop-index-preserved
 loop-index-preserved c = λ text r relative.
-    let low : c.loop-index.index < length c.args.self.now.dirs = rw (← c.self.view_is) (search rules) in
-    let dir : get_or c.args.self.now.dirs c.loop-index.index [] ≡ c.path-dir.result.now =
-    rw (← c.self.view_is) (sym c.path-dir.ensures) in
+    let low : c.loop-index.index < length c.args.dirs.now = search rules in
     let none : c.in_ok-found.field-0 ≡ None = search rules in
     let found = sym (c.in_ok-found.ensures.found text r (λ absolute. absurd (both_ways (is_absolute text) relative absolute))) ∙ none in
-    sym (found_on c.args.self.now.paths c.args.self.now.dirs c.path-dir.result.now c.loop-index.index text low dir found)
+    sym (found_on c.args.self.now.paths c.args.dirs.now c.dir-dir.result.now c.loop-index.index text low (sym c.dir-dir.ensures.dir) found)
     ∙ c.loop-index.invariant text r relative

@@ -1,29 +1,7 @@
-use Rattle.std.proofs.Common.{◌≡◌, ◌∙◌, ap, sym, cond, ℕ, List, None, bytes_eq}
-use Rattle.inc_macro.specs.Macros.{Table, with_found}
-use Rattle.inc_macro.specs.Tables.{Kept, entries_of, found, table_of}
-use Rattle.inc_macro.proofs.AsideTables.{found-none}
-use Rattle.inc_macro.proofs.NamedEntries.{found-any, found-less}
-use Rattle.inc_macro.proofs.TableSteps.{removed, slots-removed, table_in}
+use Rattle.std.proofs.Common.{◌∙◌, ap}
+use Rattle.inc_macro.specs.Macros.{with_found}
+use Rattle.inc_macro.specs.Tables.{table_of}
 use Rattle.inc_macro.proofs.tables.Macros.restore.Goals as goal
 
--- what the names find afterwards
-updates : (c : goal.After-swap_remove) (q : List ℕ)
-    → found (entries_of c.swap_remove.new.self.keys) q ≡ cond (bytes_eq c.args.name.now q) None (found (entries_of c.self.inside.table.keys) q)
-updates c = found-less c.self.inside.table.keys c.swap_remove.new.self.keys c.args.name.now c.self.invariant.1 c.swap_remove.ensures.keys
-
 pub returns-in-None : goal.returns-in-None
-returns-in-None c =
-    let keys = c.self.inside.table.keys in
-    let name = c.args.name.now in
-    let before : Table = table_in c.self.inside.language c.self.inside.stacks (entries_of keys) in
-    ap (λ (k : Kept). with_found name c.args.definition (table_of k)) (sym c.self.view_is)
-    ∙ ap (λ o. with_found name o before) c.in-None.is
-    ∙ found-none name before
-    ∙ removed c.self.inside.language c.self.inside.stacks keys c.swap_remove.new.self.keys name (found (entries_of keys) name) c.swap_remove.result
-    (found-any name keys ∙ sym c.swap_remove.ensures.found) (updates c) c.swap_remove.ensures.unchanged c.swap_remove.ensures.len
-
-pub invariant_of-self : goal.invariant_of-self
-invariant_of-self c = (
-  slots-removed c.self.inside.slots.items (entries_of c.self.inside.table.keys) (entries_of c.swap_remove.new.self.keys) c.args.name.now (updates c) c.self.invariant.0,
-  c.swap_remove.ensures.unique,
-)
+returns-in-None c = ap (λ o. with_found c.args.name.now o (table_of c.args.self.now)) c.in-None.is ∙ c.remove.ensures

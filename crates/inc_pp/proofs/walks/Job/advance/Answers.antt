@@ -1,7 +1,8 @@
-use Rattle.std.proofs.Common.{rules, ◌<◌, ◌≤◌, ◌+◌, ◌∷◌, ◌∙◌, length, reverse, ap, sym, subst, option_map}
+use Rattle.std.proofs.Common.{rules, ◌<◌, ◌≤◌, ◌+◌, ◌∷◌, ◌∙◌, length, refl, reverse, ap, sym, subst, option_map}
 use Rattle.inc_pp.specs.StateViews.{state_of}
 use Rattle.inc_pp.specs.WalkJobs.{frames_left, job_in, walk_left}
 use Rattle.inc_pp.specs.WalkStates.{IsWalk, IsEntering}
+use Rattle.inc_pp.proofs.StopSteps.{if-stop}
 use Rattle.inc_pp.proofs.WalkLemmas.{held_is, some_past, on_ok, on_ok_both, if_err, reverse-push, walk-done, walk-held, done-break, within_held, walk-within, walk-step, walk-enter, walk-break, left-enter, found_of, nests_by, one_longer, few_of, some_low}
 use Rattle.inc_pp.proofs.walks.Job.advance.Goals as goal
 
@@ -11,12 +12,13 @@ returns-in_default-clause-walk g c = λ origin source table earlier w.
 
 pub returns-in-Ok-clause-walk : goal.returns-in-Ok-clause-walk
 returns-in-Ok-clause-walk g c = λ origin source table earlier w.
-    walk-done g.S.Sources.gives origin c.args.sources.now (job_in c.args.self.now source table earlier) c.args.files.now (reverse c.args.frames.now.items) c.args.frame (state_of c.args.state.now) w (state_of c.release.new.self) c.release.new.here c.release.ensures.reads (some_past c.args.files.now c.args.frame.at.file c.count.result c.args.frame.part c.in-Some.held.now (held_is (λ h. h.now) c.get.result c.in-Some.held c.args.files.now c.args.frame.at.file c.get.ensures c.in-Some.is) c.count.ensures c.if-frame-count.true) c.in-Ok.ensures.done
+    walk-done g.S.Sources.gives origin c.args.sources.now (job_in c.args.self.now source table earlier) c.args.files.now (reverse c.args.frames.now.items) c.args.frame (state_of c.args.state.now) w (state_of c.args.state.now) c.args.frame.here refl (some_past c.args.files.now c.args.frame.at.file c.count.result c.args.frame.part c.in-Some.held.now (held_is (λ h. h.now) c.get.result c.in-Some.held c.args.files.now c.args.frame.at.file c.get.ensures c.in-Some.is) c.count.ensures c.if-frame-count.true) (λ f under index. c.in-Ok.ensures.done f (state_of c.args.state.now))
 
 pub returns-in-Err-clause-over : goal.returns-in-Err-clause-over
 returns-in-Err-clause-over g c = λ origin source table earlier w.
-    done-break g.S.Sources.gives origin c.args.sources.now (job_in c.args.self.now source table earlier) c.args.files.now (reverse c.args.frames.now.items) c.args.frame (state_of c.args.state.now) w c.in-Some.held.now (held_is (λ h. h.now) c.get.result c.in-Some.held c.args.files.now c.args.frame.at.file c.get.ensures c.in-Some.is) _ (nests_by c.len-nests.result c.args.frames.now.items (search rules)) (state_of c.release.new.self) c.in-Err.why c.release.ensures.reads
-    (within_held c.count.result c.args.frame.part c.in-Some.held.now c.count.ensures c.if-frame-count.true) c.in-Err.ensures.stop
+    done-break g.S.Sources.gives origin c.args.sources.now (job_in c.args.self.now source table earlier) c.args.files.now (reverse c.args.frames.now.items) c.args.frame (state_of c.args.state.now) w c.in-Some.held.now (held_is (λ h. h.now) c.get.result c.in-Some.held c.args.files.now c.args.frame.at.file c.get.ensures c.in-Some.is) _ (nests_by c.len-nests.result c.args.frames.now.items (search rules)) (state_of c.args.state.now) c.in-Err.why refl
+    (within_held c.count.result c.args.frame.part c.in-Some.held.now c.count.ensures c.if-frame-count.true)
+    (if-stop c.in-Err.why _ _ (λ line cause stops. (refl, λ f under index. stops f (state_of c.args.state.now))) c.in-Err.ensures.stop)
 
 pub read-requires-clause-file : goal.read-requires-clause-file
 read-requires-clause-file g c =

@@ -16,7 +16,7 @@ use Rattle.inc_pp.proofs.walks.Job.enter.Goals as goal
 pub returns-then-is_skipped-clause-entered : goal.returns-then-is_skipped-clause-entered
 returns-then-is_skipped-clause-entered g c = λ origin source table earlier e.
     let nothing = c.is_skipped.ensures c.if-is_skipped.true in
-    enter-passed g.S.Sources.gives origin c.args.sources.now (job_in c.args.self.now source table earlier) c.args.files.now (reverse c.args.frames.now.items) c.args.to (state_of c.args.state.now) (state_of c.add_read.new.self) e c.in_ok-add_read.ensures nothing.0 nothing.1 nothing.2
+    enter-passed g.S.Sources.gives origin c.args.sources.now (job_in c.args.self.now source table earlier) c.args.files.now (reverse c.args.frames.now.items) c.args.to (state_of c.args.state.now) (state_of c.add_read.new.self) e c.in_ok-add_read.ensures nothing.0 nothing.1 nothing.2 nothing.3
 
 pub returns-then-is_some-clause-entered : goal.returns-then-is_some-clause-entered
 returns-then-is_some-clause-entered g c = λ origin source table earlier e.

@@ -13,12 +13,12 @@ loop-at-init c =
 
 pub overflow_add-at : goal.overflow_add-at
 overflow_add-at c =
-    let fits = part_fits c.args.text.now c.loop-at.at c.part_len-len.result c.loop-at-test.true c.part_len-len.ensures.len in
+    let fits = part_fits c.args.language c.args.text.now c.loop-at.at c.part_len-len.result c.loop-at-test.true c.part_len-len.ensures.len in
     search (rules, fits)
 
 pub skip_plain-at-requires : goal.skip_plain-at-requires
 skip_plain-at-requires c =
-    part_fits c.args.text.now c.loop-at.at c.part_len-len.result c.loop-at-test.true c.part_len-len.ensures.len
+    part_fits c.args.language c.args.text.now c.loop-at.at c.part_len-len.result c.loop-at-test.true c.part_len-len.ensures.len
 
 pub loop-at-preserved : goal.loop-at-preserved
 loop-at-preserved c =
@@ -27,11 +27,11 @@ loop-at-preserved c =
     let n = c.part_len-len.result in
     let lt = c.loop-at-test.true in
     let end = c.skip_plain-at in
-    let fits = part_fits text at n lt c.part_len-len.ensures.len in
+    let fits = part_fits c.args.language text at n lt c.part_len-len.ensures.len in
     record {
       within = plain_end text (at + n) end.result fits end.ensures;
-      rest = plain_until text (at + n) end.result fits end.ensures
-          ∙ part_over text at n lt c.if-text-at-ne10.true c.part_len-len.ensures.len (omega arith)
+      rest = plain_until c.args.language text (at + n) end.result fits end.ensures
+          ∙ part_over c.args.language text at n lt c.if-text-at-ne10.true c.part_len-len.ensures.len (omega arith)
           ∙ c.loop-at.invariant.rest;
       unmatched = unmatched_moved c.part_len-len.new.unmatched at end.result text (omega (arith, end.ensures)) c.part_len-len.ensures.unmatched;
     }

@@ -1,6 +1,6 @@
-use Rattle.std.proofs.Common.{refl, rules}
+use Rattle.std.proofs.Common.{rules}
 use Rattle.inc_graph.proofs.StateLemmas.{no_lists}
 use Rattle.inc_graph.proofs.building.nexts.NextLists.none.Goals as goal
 
 pub returns : goal.returns
-returns c = no_lists c.args.count _ _ c.new.result (rw (c.in_ok-push.ensures.items, c.new-lists.ensures.items) refl) c.new.ensures.items (c.in_ok-vec.ensures.items_if_clones_equal (search rules))
+returns c = no_lists c.args.count _ _ (c.in_ok-vec.ensures.items_if_clones_equal (search rules))
