@@ -80,6 +80,7 @@ pub(crate) fn push_all_held<'a, 'b>(
     ensures known { OnOk result (AreKnown (size sets.new) list.new) }
     ensures list { OnOk result (carriers sets.new list.new ≡ map of_held (map seen_ref tokens.now) ++ carriers sets.old list.old) }
 {
+    list.expect(tokens.len());
     let mut at = tokens.len();
     while at > 0 {
         at -= 1;

@@ -4,7 +4,7 @@ use Rattle.inc_expand.proofs.HeldSteps.{held-all, held-before, held-none}
 use Rattle.inc_expand.proofs.held.push_all_held.Goals as goal
 
 pub loop-at-init : goal.loop-at-init
-loop-at-init c = (c.requires.list, omega arith, held-none c.args.tokens.now _ (length c.args.tokens.now) (omega arith))
+loop-at-init c = rw c.expect.ensures (c.requires.list, omega arith, held-none c.args.tokens.now _ (length c.args.tokens.now) (omega arith))
 
 pub push_held-requires : goal.push_held-requires
 push_held-requires c = record { list = c.loop-at.invariant.0 }
