@@ -85,9 +85,9 @@ of -isystem come after those of -I, and one that both name is searched after the
 
 -p takes files and include path from a compilation database, BUILD/compile_commands.json or BUILD itself,
 as cmake, meson and bear write one. The files are those below the deepest folder that has all sources
-and directories of its entries, or those of --files or --root; the include path is that of the entries
-of SOURCE, and after it the directories of -I, -isystem and -idirafter. Sources and headers are named by
-their paths from the folder of the run, or by absolute ones:
+and directories of its entries, or those of --files or --root. Each source is read with the include path
+of its entry, and after it the directories of -I, -isystem and -idirafter. Sources and headers are named
+by their paths from the folder of the run, or by absolute ones:
 
   incut why -p build src/main.c net/api.h
 
