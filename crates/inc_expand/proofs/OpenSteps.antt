@@ -205,7 +205,6 @@ module _ (s : Surroundings) (old : Work) (c : Call) where
           (sym (same-arguments old.sets new.sets keeps c.args known.args))
           ∙ ap (left s levels_above (elements_of c.macro_.now) new.meter (suc i)) (set-argument new.sets c.args i d out l)
           ∙ ap (λ k. left s levels_above (elements_of c.macro_.now) new.meter k (argument_values new.sets (set c.args i new_value))) up
-
         where
           up : suc i ≡ i + 1
           up = omega arith

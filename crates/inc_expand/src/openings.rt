@@ -66,7 +66,11 @@ impl<'a: 'b, 'b> Surroundings<'a, 'b> {
     }
 
     /// Expands the arguments of a call that the body asks for, each as a list by itself.
-    fn expand_arguments(&self, work: &mut Work<'a>, call: &mut Call<'a, 'b>) -> Result<(), ExpandFault>
+    fn expand_arguments(
+        &self,
+        work: &mut Work<'a>,
+        call: &mut Call<'a, 'b>,
+    ) -> Result<(), ExpandFault>
         requires call { IsKnownCall (size work.old.sets) call.old }
         requires noted { IsNoted call.old }
         ensures done { OnOk result (AreExpanded (surroundings_value self.now) work.old call.old 0 work.new call.new (length call.new.args)) }

@@ -69,7 +69,11 @@ returns-in_ok-more-in-IsCall-clause-onward c more =
 
 pub returns-in_ok-more-in-IsCall-clause-waits : goal.returns-in_ok-more-in-IsCall-clause-waits
 returns-in_ok-more-in-IsCall-clause-waits c none =
-    let w = c.in_ok-more-in-IsCall.ensures.waits none in
-    (w.0, refl, w.1, open-waits (surroundings_value c.args.self.now) c.args.token.now c.args.work.now c.args.list.now _
-    (case-at (surroundings_value c.args.self.now) c.args.work.now.sets c.args.token.now c.args.list.now c.in_ok-case.case _ c.in_ok-case.ensures.case c.in-IsCall.is)
-    w.2)
+    let w = c.in_ok-more-in-IsCall.ensures.waits none in (
+      w.0,
+      refl,
+      w.1,
+      open-waits (surroundings_value c.args.self.now) c.args.token.now c.args.work.now c.args.list.now _
+          (case-at (surroundings_value c.args.self.now) c.args.work.now.sets c.args.token.now c.args.list.now c.in_ok-case.case _ c.in_ok-case.ensures.case c.in-IsCall.is)
+          w.2,
+    )
