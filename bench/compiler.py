@@ -7,8 +7,7 @@ gcc compiles the text in its place. Where incut stops, the line of the stop goes
 that is compiled. Words that ask for dependencies, as -MMD and -MF, are without effect then. With -E the text of incut is the answer. A command without a
 C source goes to gcc as it is, and so does one that asks for something else of the preprocessor: -M, -MM, -C, -dM and their like.
 
-incut has no -U: gcc's macros and words of -D that it takes away are not handed on. Nor has it -iquote: its directories are words of -I, so that they are
-found for <..> too. With -include and the words of FOREIGN nothing is compiled.
+incut has no -U: gcc's macros and words of -D that it takes away are not handed on. With -include and the words of FOREIGN nothing is compiled.
 
 Each source leaves a line in the log of SETUP, in JSON, and so does each command that goes to gcc.
 """
@@ -117,8 +116,7 @@ class Setup:
 
     def include_path(self, command):
         """The words of the include path whose directories are there."""
-        names = {"-iquote": "-I", **{name: name for name in FOLDERS[1:]}}
-        return [word for name in FOLDERS for it in command.folders[name] if os.path.isdir(it) for word in (names[name], self.path(it))]
+        return [word for name in FOLDERS for it in command.folders[name] if os.path.isdir(it) for word in (name, self.path(it))]
 
     def compiler(self, command, gone):
         """A file with the macros and the directories that gcc has from the start with the flags of a command. It is made once for the same flags."""

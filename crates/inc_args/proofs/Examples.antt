@@ -7,7 +7,7 @@ use Rattle.inc_args.specs.Refusals.{refusals}
 
 -- the files of f, whose paths end in NUL, with two search directories
 abbrev pub files : FileWords
-files = record { build = None; list = Some (codes "f"); is_null = true; roots = []; dirs = codes "a" ∷ codes "b" ∷ []; system = []; last = [] }
+files = record { build = None; list = Some (codes "f"); is_null = true; roots = []; dirs = codes "a" ∷ codes "b" ∷ []; quoted = []; system = []; last = [] }
 
 abbrev pub cut_words : List Text
 cut_words =
@@ -18,7 +18,7 @@ cut_words =
 pub cut_is_asked : meaning cut_words
     ≡ record {
       asked = Cut (record { files = files; source = Some (codes "s.c"); header = Some (codes "h.h"); from = []; to = []; without = None; drop = []; undefined = [] }) (record { fixed = None; keep = codes "k/*.h:7" ∷ codes "l" ∷ []; only = []; costs = Some (codes "-") })
-          (record { is_blank = true; is_patch = false; format = record { name = Some (codes "text"); is_all = true; most = Some (codes "9") } });
+          (record { is_blank = true; is_patch = false; format = record { name = Some (codes "text"); is_all = true; fails = false; most = Some (codes "9") } });
       languages = record { is_extended = true; is_gnu = false };
       is_quiet = true;
       follows = false;
@@ -39,7 +39,7 @@ standard_input_is_scanned = refl
 pub sources_are_preprocessed : meaning (codes "incut" ∷ codes "pp" ∷ codes "--files" ∷ codes "f" ∷ codes "-DA" ∷ codes "x.c" ∷ codes "y.c" ∷ codes "-D" ∷ codes "B=1" ∷ [])
     ≡ record {
       asked = Pp (record {
-        files = record { build = None; list = Some (codes "f"); is_null = false; roots = []; dirs = []; system = []; last = [] };
+        files = record { build = None; list = Some (codes "f"); is_null = false; roots = []; dirs = []; quoted = []; system = []; last = [] };
         sources = codes "x.c" ∷ codes "y.c" ∷ [];
         without = None;
         defines = None;
@@ -61,7 +61,7 @@ sources_are_preprocessed = refl
 pub sets_are_asked : meaning (codes "incut" ∷ codes "why" ∷ codes "--files" ∷ codes "f" ∷ codes "--from=*.c" ∷ codes "--to" ∷ codes "a.h" ∷ codes "--from" ∷ codes "x" ∷ codes "--format" ∷ codes "gcc" ∷ [])
     ≡ record {
       asked = Why (record {
-        files = record { build = None; list = Some (codes "f"); is_null = false; roots = []; dirs = []; system = []; last = [] };
+        files = record { build = None; list = Some (codes "f"); is_null = false; roots = []; dirs = []; quoted = []; system = []; last = [] };
         source = None;
         header = None;
         from = codes "*.c" ∷ codes "x" ∷ [];
@@ -69,7 +69,7 @@ pub sets_are_asked : meaning (codes "incut" ∷ codes "why" ∷ codes "--files" 
         without = None;
         drop = [];
         undefined = [];
-      }) (record { name = Some (codes "gcc"); is_all = false; most = None });
+      }) (record { name = Some (codes "gcc"); is_all = false; fails = false; most = None });
       languages = record { is_extended = false; is_gnu = false };
       is_quiet = false;
       follows = false;
@@ -81,7 +81,7 @@ sets_are_asked = refl
 pub sources_are_asked : meaning (codes "incut" ∷ codes "who" ∷ codes "--files" ∷ codes "f" ∷ codes "--chains" ∷ codes "--format" ∷ codes "gcc" ∷ codes "--undefined" ∷ codes "N" ∷ codes "a.h" ∷ [])
     ≡ record {
       asked = Who (record {
-        files = record { build = None; list = Some (codes "f"); is_null = false; roots = []; dirs = []; system = []; last = [] };
+        files = record { build = None; list = Some (codes "f"); is_null = false; roots = []; dirs = []; quoted = []; system = []; last = [] };
         source = None;
         header = Some (codes "a.h");
         from = codes "**.c" ∷ [];
@@ -89,7 +89,7 @@ pub sources_are_asked : meaning (codes "incut" ∷ codes "who" ∷ codes "--file
         without = None;
         drop = [];
         undefined = codes "N" ∷ [];
-      }) (record { name = Some (codes "gcc"); is_all = true; most = None });
+      }) (record { name = Some (codes "gcc"); is_all = true; fails = false; most = None });
       languages = record { is_extended = false; is_gnu = false };
       is_quiet = false;
       follows = false;
@@ -101,7 +101,7 @@ sources_are_asked = refl
 pub edges_are_asked : meaning (codes "incut" ∷ codes "graph" ∷ codes "--from" ∷ codes "a.c" ∷ codes "--drop=a.c:3" ∷ codes "--files" ∷ codes "f" ∷ codes "--from" ∷ codes "b.c" ∷ [])
     ≡ record {
       asked = Graph (record {
-        files = record { build = None; list = Some (codes "f"); is_null = false; roots = []; dirs = []; system = []; last = [] };
+        files = record { build = None; list = Some (codes "f"); is_null = false; roots = []; dirs = []; quoted = []; system = []; last = [] };
         source = None;
         header = None;
         from = codes "a.c" ∷ codes "b.c" ∷ [];
@@ -109,7 +109,7 @@ pub edges_are_asked : meaning (codes "incut" ∷ codes "graph" ∷ codes "--from
         without = None;
         drop = codes "a.c:3" ∷ [];
         undefined = [];
-      }) (record { name = None; is_all = false; most = None });
+      }) (record { name = None; is_all = false; fails = false; most = None });
       languages = record { is_extended = false; is_gnu = false };
       is_quiet = false;
       follows = false;
@@ -121,7 +121,7 @@ edges_are_asked = refl
 pub sources_of_a_build_are_asked : meaning (codes "incut" ∷ codes "graph" ∷ codes "-pb" ∷ codes "--root=r" ∷ codes "--format=dot" ∷ [])
     ≡ record {
       asked = Graph (record {
-        files = record { build = Some (codes "b"); list = None; is_null = false; roots = codes "r" ∷ []; dirs = []; system = []; last = [] };
+        files = record { build = Some (codes "b"); list = None; is_null = false; roots = codes "r" ∷ []; dirs = []; quoted = []; system = []; last = [] };
         source = None;
         header = None;
         from = codes "**" ∷ [];
@@ -129,7 +129,7 @@ pub sources_of_a_build_are_asked : meaning (codes "incut" ∷ codes "graph" ∷ 
         without = None;
         drop = [];
         undefined = [];
-      }) (record { name = Some (codes "dot"); is_all = false; most = None });
+      }) (record { name = Some (codes "dot"); is_all = false; fails = false; most = None });
       languages = record { is_extended = false; is_gnu = false };
       is_quiet = false;
       follows = false;

@@ -1,3 +1,4 @@
+pub mod AllSources
 pub mod Examples
 pub mod OptionWords
 pub mod Rows

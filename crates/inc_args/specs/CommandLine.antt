@@ -63,6 +63,9 @@ follow = flag (codes "follow")
 abbrev pub include : Rule
 include = repeated 73 (codes "include")
 
+abbrev pub iquote : Rule
+iquote = repeated_option (codes "iquote")
+
 abbrev pub isystem : Rule
 isystem = repeated_option (codes "isystem")
 
@@ -105,6 +108,9 @@ format = option (codes "format")
 
 abbrev pub all : Rule
 all = flag (codes "all")
+
+abbrev pub fail_if_reached : Rule
+fail_if_reached = flag (codes "fail-if-reached")
 
 abbrev pub most : Rule
 most = option (codes "max")
@@ -172,7 +178,7 @@ list_rules = build ∷ files ∷ null ∷ root ∷ follow ∷ []
 
 -- in which directories headers are searched, and which directives are taken as removed
 abbrev pub search_rules : List Rule
-search_rules = include ∷ isystem ∷ idirafter ∷ without ∷ []
+search_rules = include ∷ iquote ∷ isystem ∷ idirafter ∷ without ∷ []
 
 abbrev pub file_rules : List Rule
 file_rules = list_rules ++ search_rules
@@ -188,6 +194,10 @@ note_rules = quiet ∷ []
 -- what limits a cut
 abbrev pub limit_rules : List Rule
 limit_rules = fixed ∷ keep ∷ only ∷ costs ∷ []
+
+-- whether the answer that a header is reached is negative
+abbrev pub reach_rules : List Rule
+reach_rules = fail_if_reached ∷ []
 
 -- in which format an answer is printed, and how much of it
 abbrev pub format_rules : List Rule
@@ -221,10 +231,10 @@ abbrev pub scan : App
 scan = command (codes "scan") (extended ∷ gnu ∷ format ∷ path ∷ [])
 
 abbrev pub why : App
-why = command (codes "why") (extended ∷ gnu ∷ file_rules ++ drop_rules ++ note_rules ++ format_rules ++ end_rules)
+why = command (codes "why") (extended ∷ gnu ∷ file_rules ++ drop_rules ++ note_rules ++ reach_rules ++ format_rules ++ end_rules)
 
 abbrev pub who : App
-who = command (codes "who") (extended ∷ gnu ∷ file_rules ++ drop_rules ++ note_rules ++ who_rules)
+who = command (codes "who") (extended ∷ gnu ∷ file_rules ++ drop_rules ++ note_rules ++ reach_rules ++ who_rules)
 
 abbrev pub graph : App
 graph = command (codes "graph") (extended ∷ gnu ∷ file_rules ++ drop_rules ++ graph_rules)

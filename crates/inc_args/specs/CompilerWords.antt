@@ -17,6 +17,9 @@ abbrev pub as_long : (option word : Text) → (value : Option Text) → Text
 as_long option word None = word
 as_long option word (Some value) = long_option option value
 
+abbrev pub iquote : Text
+iquote = codes "-iquote"
+
 abbrev pub isystem : Text
 isystem = codes "-isystem"
 
@@ -24,7 +27,8 @@ abbrev pub idirafter : Text
 idirafter = codes "-idirafter"
 
 abbrev pub as_option : Text → Text
-as_option word = as_long isystem (as_long idirafter word (value_after idirafter word)) (value_after isystem word)
+as_option word =
+    as_long isystem (as_long idirafter (as_long iquote word (value_after iquote word)) (value_after idirafter word)) (value_after isystem word)
 
 -- the words of a command line, up to one that ends its options
 abbrev pub as_options : List Text → List Text

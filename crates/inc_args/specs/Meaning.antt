@@ -7,13 +7,15 @@ use Rattle.inc_args.specs.CommandLine.{incut}
 ---- what may be asked for
 
 -- the files of a project: the compilation database of its build, if a word names one; who lists them, if a word says so, whether NUL ends
--- a path of that list and not a line feed, the folders below which they are found, and the include path: the directories of one's own headers, those of the system's, and the system's last ones
+-- a path of that list and not a line feed, the folders below which they are found, and the include path: the directories of one's own headers, those for
+-- names between " alone, those of the system's, and the system's last ones
 pub record FileWords : Type 0 where
   pub build : Option Text
   pub list : Option Text
   pub is_null : Bool
   pub roots : List Text
   pub dirs : List Text
+  pub quoted : List Text
   pub system : List Text
   pub last : List Text
 
@@ -45,6 +47,8 @@ pub record Format : Type 0 where
   pub name : Option Text
   -- each chain is shown whole
   pub is_all : Bool
+  -- it is negative where a header is reached
+  pub fails : Bool
   -- how many are printed at most, if that is given
   pub most : Option Text
 
@@ -130,6 +134,7 @@ files_in rows = record {
   is_null = is_given (codes "null") rows;
   roots = values_of (codes "root") rows;
   dirs = values_of (codes "include") rows;
+  quoted = values_of (codes "iquote") rows;
   system = values_of (codes "isystem") rows;
   last = values_of (codes "idirafter") rows;
 }
@@ -169,7 +174,12 @@ limits_in rows = record {
 
 -- by the flag that shows chains whole
 abbrev pub format_in : (all : Text) → List Row → Format
-format_in all rows = record { name = first_of (codes "format") rows; is_all = is_given all rows; most = first_of (codes "max") rows }
+format_in all rows = record {
+  name = first_of (codes "format") rows;
+  is_all = is_given all rows;
+  fails = is_given (codes "fail-if-reached") rows;
+  most = first_of (codes "max") rows;
+}
 
 abbrev pub forms_in : List Row → Forms
 forms_in rows = record { is_blank = is_given (codes "blank") rows; is_patch = is_given (codes "patch") rows; format = format_in (codes "all") rows }

@@ -19,6 +19,7 @@ seen_files f = record {
   is_null = f.is_null;
   roots = map (λ r. r.now) f.roots.items;
   dirs = map (λ d. d.now) f.dirs.items;
+  quoted = map (λ d. d.now) f.quoted.items;
   system = map (λ d. d.now) f.system.items;
   last = map (λ d. d.now) f.last.items;
 }
@@ -58,7 +59,7 @@ seen_pp p = record {
 }
 
 abbrev pub seen_format : FormatArgs → Format
-seen_format f = record { name = option_map (λ n. n.now) f.name; is_all = f.all; most = option_map (λ n. n.now) f.most }
+seen_format f = record { name = option_map (λ n. n.now) f.name; is_all = f.all; fails = f.fails; most = option_map (λ n. n.now) f.most }
 
 abbrev pub seen_forms : FormArgs → Forms
 seen_forms f = record { is_blank = f.blank; is_patch = f.patch; format = seen_format f.format }

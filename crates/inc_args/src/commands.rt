@@ -2,7 +2,7 @@
 ghost use Rattle.std.specs.Prelude.{◌≡◌, ◌∷◌, [], IfOk};
 ghost use Rattle.clap.specs.Words.{app_of};
 ghost use Rattle.inc_args.specs.CommandLine as line;
-ghost use Rattle.inc_args.specs.CommandLine.{end_rules, file_rules, form_rules, format_rules, graph_rules, incut, limit_rules, list_rules, macro_rules, note_rules, output_rules, search_rules, who_rules, with_rules, drop_rules};
+ghost use Rattle.inc_args.specs.CommandLine.{end_rules, file_rules, form_rules, format_rules, graph_rules, incut, limit_rules, list_rules, macro_rules, note_rules, output_rules, reach_rules, search_rules, who_rules, with_rules, drop_rules};
 
 use crate::help::{
     ABOUT, ALL_HELP, CHECK_NOTES, CUT_NOTES, EXAMPLES, EXTENDED_HELP, FORMAT_HELP, GNU_HELP,
@@ -61,11 +61,13 @@ fn with_search<'a>(alloc: Global, command: Command<'a>) -> Result<Command<'a>, A
     ensures { IfOk result (λ c. app_of c ≡ with_rules (app_of command.entry) search_rules) }
 {
     let dirs = "Add DIR to the include path (repeatable)";
+    let quoted = "Search DIR for names in quotes alone, before -I (repeatable)";
     let system = "Search DIR for system headers, after those of -I (repeatable)";
     let last = "Search DIR for system headers, after all others (repeatable)";
     let without = "Take the directives that MARKS lists as removed; `-` is standard input";
     command
         .arg(repeated(alloc, 'I', "include", "DIR", dirs))?
+        .arg(repeated_option(alloc, "iquote", "DIR", quoted))?
         .arg(repeated_option(alloc, "isystem", "DIR", system))?
         .arg(repeated_option(alloc, "idirafter", "DIR", last))?
         .arg(option(alloc, "without", "MARKS", without))
@@ -84,6 +86,14 @@ fn with_notes<'a>(alloc: Global, command: Command<'a>) -> Result<Command<'a>, Al
     ensures { IfOk result (λ c. app_of c ≡ with_rules (app_of command.entry) note_rules) }
 {
     command.arg(quiet(alloc))
+}
+
+/// Adds the flag with which the answer that a header is reached is negative.
+fn with_reach<'a>(alloc: Global, command: Command<'a>) -> Result<Command<'a>, AllocError>
+    ensures { IfOk result (λ c. app_of c ≡ with_rules (app_of command.entry) reach_rules) }
+{
+    let fails = "End with status 1 where a source includes the header, and with 0 where none does";
+    command.arg(flag(alloc, "fail-if-reached", fails))
 }
 
 /// Adds the options that limit a cut.
@@ -216,8 +226,8 @@ fn why<'a>(alloc: Global) -> Result<Command<'a>, AllocError>
         WHY_NOTES,
     )?;
     let command = with_drop(alloc, with_files(alloc, command)?)?;
-    let command = with_format(alloc, with_notes(alloc, command)?)?;
-    with_ends(alloc, command)
+    let command = with_reach(alloc, with_notes(alloc, command)?)?;
+    with_ends(alloc, with_format(alloc, command)?)
 }
 
 fn who<'a>(alloc: Global) -> Result<Command<'a>, AllocError>
@@ -230,7 +240,7 @@ fn who<'a>(alloc: Global) -> Result<Command<'a>, AllocError>
         WHO_NOTES,
     )?;
     let command = with_drop(alloc, with_files(alloc, command)?)?;
-    with_who(alloc, with_notes(alloc, command)?)
+    with_who(alloc, with_reach(alloc, with_notes(alloc, command)?)?)
 }
 
 fn graph<'a>(alloc: Global) -> Result<Command<'a>, AllocError>

@@ -5,7 +5,7 @@ ghost use Rattle.inc_args.specs.CompilerWords as spec;
 
 use std::alloc::{AllocError, Global};
 
-/// The words of the command line with `--isystem` and `--idirafter` where they have `-isystem DIR`, `-isystemDIR` and the like, as compilers
+/// The words of the command line with `--iquote`, `--isystem` and `--idirafter` where they have `-isystem DIR`, `-isystemDIR` and the like, as compilers
 /// take them; `None`, and no copy, where they have none of these. Words after a `--` stay.
 pub fn as_options(alloc: Global, words: &[String]) -> Result<Option<Vec<String>>, AllocError>
     ensures { IfOk result (λ options. unwrap_or (option_map (λ o. map string_bytes o.items) options) (map string_bytes words.now)
@@ -39,7 +39,9 @@ fn are_options(words: &[String]) -> bool
 fn stays(word: &str) -> bool
     ensures { result ≡ true → spec.as_option word.now ≡ word.now }
 {
-    value_after("-isystem", word).is_none() && value_after("-idirafter", word).is_none()
+    value_after("-isystem", word).is_none()
+        && value_after("-idirafter", word).is_none()
+        && value_after("-iquote", word).is_none()
 }
 
 /// The words, each as the command line takes it.
@@ -78,6 +80,9 @@ fn as_option(alloc: Global, word: &str) -> Result<String, AllocError>
     }
     if let Some(value) = value_after("-idirafter", word) {
         return long_option(alloc, "-idirafter", value);
+    }
+    if let Some(value) = value_after("-iquote", word) {
+        return long_option(alloc, "-iquote", value);
     }
     String::from_str(alloc, word)
 }

@@ -81,12 +81,13 @@ its path, by its name in an include, or by the end of its path:
   incut why -I include src/main.c net/api.h
 
 -I, -isystem and -idirafter name the directories in which headers are searched, as for a compiler: those
-of -isystem come after those of -I, and one that both name is searched after them alone.
+of -isystem come after those of -I, and one that both name is searched after them alone. -iquote names
+those for names in quotes alone, which come before -I.
 
 -p takes files and include path from a compilation database, BUILD/compile_commands.json or BUILD itself,
 as cmake, meson and bear write one. The files are those below the deepest folder that has all sources
 and directories of its entries, or those of --files or --root. Each source is read with the include path
-of its entry, and after it the directories of -I, -isystem and -idirafter. Sources and headers are named
+of its entry, and after it the directories of the command line. Sources and headers are named
 by their paths from the folder of the run, or by absolute ones:
 
   incut why -p build src/main.c net/api.h
@@ -129,7 +130,12 @@ of the cut, so that this shows whether they are enough:
 
 --drop takes the directive at a line of each file that GLOB fits as removed:
 
-  incut why --drop 'src/*.c:3' src/main.c include/api.h";
+  incut why --drop 'src/*.c:3' src/main.c include/api.h
+
+For a test of a build, --fail-if-reached makes a chain a negative answer: the exit status is 1 where SOURCE
+includes HEADER, and 0 where it does not. The output stays:
+
+  incut why --fail-if-reached -I include --from 'public/*.h' --to 'private/*.h'";
 
 pub(crate) const WHO_NOTES: &str =
     "List the sources that include HEADER, directly or through other files, each after the number of
@@ -149,6 +155,8 @@ each source is listed that includes some header of these. The globs are those of
 file that --from and --to both stand for is taken as a header alone:
 
   incut who -I include --from 'src/net/*.c' --to 'include/private/*.h'
+
+With --fail-if-reached the exit status is 1 where some source includes HEADER, as for `incut why`.
 
 --chains prints below each source the first of its shortest chains, as `incut why` does for that
 source:
@@ -318,8 +326,9 @@ that looks like that of a stop may be one of tokens:
 
 --defines names a file with lines `#define NAME BODY` or `#define NAME(PARAMETERS) BODY`. They come
 before the words of -D. --compiler names one that may have lines `dir PATH`, too, for directories that
-are searched after those of -isystem; its definitions come before those of --defines. Names that are
-predefined here, such as __STDC_VERSION__, are skipped. The date is `Jan  1 1970`, the time `00:00:00`.
+are searched after those of -isystem, and lines `has NAME(ARG) NUMBER` for what a compiler answers to
+__has_attribute and the like, which is 0 else; its definitions come before those of --defines. Names that
+are predefined here, such as __STDC_VERSION__, are skipped. The date is `Jan  1 1970`, the time `00:00:00`.
 
 Where it cannot go on, the last line is `stop C.F LINE PATH`: cause, fault and place. The causes:
 

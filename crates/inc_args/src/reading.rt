@@ -131,6 +131,7 @@ fn read_files<'a>(alloc: Global, matches: &ArgMatches<'a>) -> Result<FileList<'a
         is_null: is_given(matches, "null"),
         roots: values(alloc, matches, "root")?,
         dirs: values(alloc, matches, "include")?,
+        quoted: values(alloc, matches, "iquote")?,
         system: values(alloc, matches, "isystem")?,
         last: values(alloc, matches, "idirafter")?,
     })
@@ -194,6 +195,7 @@ fn read_format<'a>(matches: &ArgMatches<'a>, all: &str) -> FormatArgs<'a>
     FormatArgs {
         name: given(matches, "format"),
         all: is_given(matches, all),
+        fails: is_given(matches, "fail-if-reached"),
         most: given(matches, "max"),
     }
 }

@@ -54,6 +54,8 @@ pub struct FileList<'a> {
     pub roots: Vec<&'a str>,
     /// The directories of one's own headers, in the order in which they are searched.
     pub dirs: Vec<&'a str>,
+    /// Those for names between `"` alone, which are searched before them.
+    pub quoted: Vec<&'a str>,
     /// Those of the system's headers, which are searched after them.
     pub system: Vec<&'a str>,
     /// Those of the system's headers that are searched last.
@@ -112,6 +114,8 @@ pub struct FormatArgs<'a> {
     pub name: Option<&'a str>,
     /// Whether each chain is shown whole.
     pub all: bool,
+    /// Whether the answer is negative where a header is reached.
+    pub fails: bool,
     /// How many chains and sources are printed at most, if that is given.
     pub most: Option<&'a str>,
 }

@@ -1,8 +1,8 @@
 -- What is left to do for a question once something of it is known.
 use Rattle.std.proofs.Common.{◌≡◌, ◌++◌, [], ℕ, Ok, List, refl}
 use Rattle.inc_text.specs.declared.languages.Language.{Language}
-use Rattle.inc_lookup.specs.IncludePath.{NamedDir}
-use Rattle.inc_lookup.specs.Projects.{Layout}
+use Rattle.inc_lookup.specs.IncludePath.{NamedPath}
+use Rattle.inc_lookup.specs.Projects.{Layout, SearchPath}
 use Rattle.inc_graph.specs.Marks.{Cost, Mark}
 use Rattle.inc_args.specs.Meaning.{Limits, Question}
 use Rattle.inc_inputs.specs.BuildProjects.{Added}
@@ -21,10 +21,10 @@ abbrev pub texts_with : (list : List ℕ) (fixed without : List Mark) (costs : L
 texts_with list fixed without costs = record { list = list; fixed = fixed; without = without; costs = costs }
 
 -- what they hold, part by part
-pub opened_made : (q : Question) (t : Texts) (paths : List (List ℕ)) (costs : List Cost) (undefined : List (List ℕ)) (dirs : List NamedDir)
-    → paths ≡ paths_in q.files t.list → undefined ≡ q.undefined → dirs ≡ include_path q.files []
-    → (let o : Opened = record { paths = paths; costs = costs; undefined = undefined; dirs = dirs } in o) ≡ opened_by q t costs
-opened_made q t paths costs undefined dirs a b c = rw (a, b, c) refl
+pub opened_made : (q : Question) (t : Texts) (paths : List (List ℕ)) (costs : List Cost) (undefined : List (List ℕ)) (path : NamedPath)
+    → paths ≡ paths_in q.files t.list → undefined ≡ q.undefined → path ≡ include_path q.files []
+    → (let o : Opened = record { paths = paths; costs = costs; undefined = undefined; path = path } in o) ≡ opened_by q t costs
+opened_made q t paths costs undefined path a b c = rw (a, b, c) refl
 
 -- once the places are known, once sources and headers are, once the include paths are, and once the costs are
 abbrev pub with_places : {S : Type 0} → Language → Command → Question → Opened → Layout → Built → EndPaths → Places → Step S Asked
@@ -34,7 +34,7 @@ abbrev pub with_ends : {S : Type 0} → Language → Command → Question → Li
 with_ends language command q l without fixed o layout b ends =
     then (comes_to (places_of layout q l without fixed)) (with_places language command q o layout b ends)
 
-abbrev pub with_others : {S : Type 0} → Language → Command → Question → Limits → Added → (without fixed : List Mark) → Opened → Layout → (others : List (List (List ℕ))) → Step S Asked
+abbrev pub with_others : {S : Type 0} → Language → Command → Question → Limits → Added → (without fixed : List Mark) → Opened → Layout → (others : List SearchPath) → Step S Asked
 with_others language command q l a without fixed o layout others = asked_built language command q l without fixed o layout (built_by layout a others)
 
 abbrev pub with_costs : {S : Type 0} → Language → Command → Question → Limits → Added → Texts → List Cost → Step S Asked

@@ -5,10 +5,10 @@ use Rattle.inc_report.specs.declared.named.NamedForm.{NamedForm}
 
 -- what is asked about a source and a header
 pub data Command : Type 0 where
-  -- at most so many chains are printed
-  Why : (most : Option ℕ) → Command
-  -- with the chains, or without; at most so many are printed, and so many sources
-  Who : (with_chains : Bool) → (most : Option ℕ) → Command
+  -- the answer that a header is reached fails, or does not; at most so many chains are printed
+  Why : (fails : Bool) → (most : Option ℕ) → Command
+  -- with the chains, or without; it fails so; at most so many chains are printed, and so many sources
+  Who : (with_chains fails : Bool) → (most : Option ℕ) → Command
   -- about sources alone
   Graph : Command
   Cut : Command
@@ -23,8 +23,8 @@ pub data Command : Type 0 where
 
 -- with at most so many chains
 abbrev pub bounded : (most : Option ℕ) → Command → Command
-bounded most (Why old) = Why most
-bounded most (Who with_chains old) = Who with_chains most
+bounded most (Why fails old) = Why fails most
+bounded most (Who with_chains fails old) = Who with_chains fails most
 bounded most command = command
 
 -- the word that names a certificate

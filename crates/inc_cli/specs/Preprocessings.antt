@@ -4,7 +4,7 @@ use Rattle.std.specs.Io.KnownBytes.{Appends}
 use Rattle.inc_text.specs.declared.languages.Language.{Language}
 use Rattle.inc_text.specs.declared.devices.ReadFault.{ReadFault}
 use Rattle.inc_lookup.specs.Given.{FailsAfter, HoldsOfGiven}
-use Rattle.inc_lookup.specs.IncludePath.{NamedDir}
+use Rattle.inc_lookup.specs.IncludePath.{NamedPath}
 use Rattle.inc_lookup.specs.Projects.{Layout}
 use Rattle.inc_pp.specs.Settings.{found_in_settings, marked_settings, usual_settings}
 use Rattle.inc_pp.specs.declared.settings.Missing.{Missing}
@@ -17,7 +17,7 @@ use Rattle.inc_report.specs.declared.outcome.End.{End}
 use Rattle.inc_report.specs.declared.outcome.RunFault.{RunFault}
 use Rattle.inc_args.specs.Meaning.{Preprocessing}
 use Rattle.inc_inputs.specs.Defines.{described_dirs}
-use Rattle.inc_inputs.specs.IncludePath.{dir_names, include_path}
+use Rattle.inc_inputs.specs.IncludePath.{include_path}
 use Rattle.inc_inputs.specs.Inputs.{Gives, Puts, listed}
 use Rattle.inc_inputs.specs.declared.failures.Hindrance.{Hindrance}
 use Rattle.inc_cli.specs.Outputs.{Answer, Following, Output, ended}
@@ -25,6 +25,7 @@ use Rattle.inc_inputs.specs.PpTexts.{PpTexts, pp_texts, pp_texts_beside}
 use Rattle.inc_inputs.specs.BuildProjects.{Found, found_preprocessing, with_macros, words_fault, words_of_pp}
 use Rattle.inc_inputs.specs.BuildSteps.{found_if}
 use Rattle.inc_build.specs.declared.compiler_words.Kind.{Kind}
+use Rattle.inc_inputs.specs.Questions.{with_questions}
 use Rattle.inc_inputs.specs.Reports.{Report, input_twice, no_file, one_file}
 use Rattle.inc_inputs.specs.Steps.{Step, comes_to, next_of, then, writes_if}
 use Rattle.inc_inputs.specs.ProjectLists.{paths_in}
@@ -45,21 +46,25 @@ pub record PpAsked : Type 0 where
   pub notes : List ℕ
 
 -- the include path by the words and by what describes a compiler
-abbrev pub searched : Preprocessing → PpTexts → List NamedDir
+abbrev pub searched : Preprocessing → PpTexts → NamedPath
 searched p texts = include_path p.files (described_dirs texts.compiler.text)
 
--- by the texts, nothing more being read: the words of the compiler come first, and those of the command line last. Those of the entry of a
--- build stand between, each of which may take away what was defined before it
+-- the words that define macros: those of the compiler come first, and those of the command line last. Those of the entry of a build stand between,
+-- each of which may take away what was defined before it. The questions of the language that no word defines come after all
+abbrev pub all_words : Language → Preprocessing → (macros : List (Kind × List ℕ)) → PpTexts → List (List ℕ)
+all_words language p macros texts = with_questions language macros (with_macros (texts.compiler.words ++ texts.defines) macros ++ p.words)
+
+-- by the texts, nothing more being read
 abbrev pub pp_asked : {S : Type 0} → Language → Preprocessing → (macros : List (Kind × List ℕ)) → (notes : List ℕ) → PpTexts → Step S PpAsked
 pp_asked language p macros notes texts =
-    then (comes_to (listed_layout (paths_in p.files texts.list) (dir_names (searched p texts)))) (λ layout.
+    then (comes_to (listed_layout (paths_in p.files texts.list) (searched p texts))) (λ layout.
     comes_to (Ok (record {
       paths = paths_in p.files texts.list;
       layout = layout;
       question = record {
         sources = p.sources;
-        words = with_macros (texts.compiler.words ++ texts.defines) macros ++ p.words;
-        settings = found_in_settings (searched p texts) (marked_settings p.has_markers (usual_settings language (missing_of p.is_missing_empty)));
+        words = all_words language p macros texts;
+        settings = found_in_settings (searched p texts).dirs (marked_settings p.has_markers (usual_settings language (missing_of p.is_missing_empty)));
         without = texts.without;
         has_rules = is_some p.deps;
         has_endings = is_some p.status;
@@ -72,6 +77,7 @@ abbrev pub with_texts : (list notes : List ℕ) → Found → Found
 with_texts list notes f = record {
   list = list;
   dirs = f.dirs;
+  quoted = f.quoted;
   system = f.system;
   last = f.last;
   sources = f.sources;

@@ -44,14 +44,14 @@ format_named name =
     if bytes_eq name (codes "dot") then Some Dot else None
 
 -- the command that answers in this format, if it is one
-abbrev pub named_in : Option Format → (all : Bool) → (most : Option ℕ) → Asked → Result Command Report
-named_in None all most asked = Err no_format
-named_in (Some format) all most asked = Ok (Named (record { asked = asked; format = format; all = all; most = most }))
+abbrev pub named_in : Option Format → (all fails : Bool) → (most : Option ℕ) → Asked → Result Command Report
+named_in None all fails most asked = Err no_format
+named_in (Some format) all fails most asked = Ok (Named (record { asked = asked; format = format; all = all; fails = fails; most = most }))
 
 -- the command whose answer is printed in a format: the text of old, or with directives as they are written
-abbrev pub in_format : (name : List ℕ) → (all : Bool) → (most : Option ℕ) → (text : Command) → Asked → Result Command Report
-in_format name all most text asked =
-    if bytes_eq name (codes "text") then Ok (bounded most text) else named_in (format_named name) all most asked
+abbrev pub in_format : (name : List ℕ) → (all fails : Bool) → (most : Option ℕ) → (text : Command) → Asked → Result Command Report
+in_format name all fails most text asked =
+    if bytes_eq name (codes "text") then Ok (bounded most text) else named_in (format_named name) all fails most asked
 
 -- how many chains are printed at most
 abbrev pub most_in : Option ℕ → Result (Option ℕ) Report
@@ -78,7 +78,7 @@ scan_form is_terminal name = scan_form_named (unwrap_or name (default_format is_
 
 abbrev pub formatted_by : (is_terminal : Bool) → args.Format → (text : Command) → Asked → Result (Option ℕ) Report → Result Command Report
 formatted_by is_terminal f text asked (Err report) = Err report
-formatted_by is_terminal f text asked (Ok most) = in_format (unwrap_or f.name (default_format is_terminal)) f.is_all most text asked
+formatted_by is_terminal f text asked (Ok most) = in_format (unwrap_or f.name (default_format is_terminal)) f.is_all f.fails most text asked
 
 abbrev pub formatted : (is_terminal : Bool) → args.Format → (text : Command) → Asked → Result Command Report
 formatted is_terminal f text asked = formatted_by is_terminal f text asked (most_of f.most)
@@ -94,14 +94,14 @@ form_of is_terminal f =
 
 -- which sources reach the headers that words name
 abbrev pub who_of : (is_terminal : Bool) → args.Question → args.Format → Result Command Report
-who_of is_terminal q f = if are_ends q then formatted is_terminal f (Who f.is_all None) asked.Who else Err no_headers
+who_of is_terminal q f = if are_ends q then formatted is_terminal f (Who f.is_all f.fails None) asked.Who else Err no_headers
 
 -- what words ask for is answered
 abbrev pub IsAnswerTo : {S T : Type 0} → Gives S → Puts S → Opens S T → Language → (is_terminal : Bool) → args.Asked → (old : S) → Output → Result Answer Report → Type 0
 IsAnswerTo gives puts o language is_terminal (args.Scan path format) old out answer =
     Follows (λ form. IsScan gives language form path) (scan_form is_terminal format) old out answer
 IsAnswerTo gives puts o language is_terminal (args.Why q f) old out answer =
-    Follows (λ command. IsAskedBy Content gives o language command q no_limits) (formatted is_terminal f (Why None) asked.Why) old out answer
+    Follows (λ command. IsAskedBy Content gives o language command q no_limits) (formatted is_terminal f (Why f.fails None) asked.Why) old out answer
 IsAnswerTo gives puts o language is_terminal (args.Who q f) old out answer =
     Follows (λ command. IsAskedBy Content gives o language command q no_limits) (who_of is_terminal q f) old out answer
 IsAnswerTo gives puts o language is_terminal (args.Graph q f) old out answer =

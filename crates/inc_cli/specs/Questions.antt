@@ -42,8 +42,8 @@ OfFiles gives a old new P = HoldsOfGiven (listed gives a.paths) old new a.layout
 
 -- what is printed
 abbrev pub IsPrinted : {S T : Type 0} → Gives S → Opens S T → Command → Asked → (old new : S) → Printed → Type 0
-IsPrinted gives o (Why most) a old new p = OfFiles gives a old new (IsWhyBy most a.question p)
-IsPrinted gives o (Who with_chains most) a old new p = OfFiles gives a old new (IsWhoBy with_chains most a.question p)
+IsPrinted gives o (Why fails most) a old new p = OfFiles gives a old new (IsWhyBy fails most a.question p)
+IsPrinted gives o (Who with_chains fails most) a old new p = OfFiles gives a old new (IsWhoBy with_chains fails most a.question p)
 IsPrinted gives o Graph a old new p = OfFiles gives a old new (IsGraphBy a.question p)
 IsPrinted gives o Cut a old new p = OfFiles gives a old new (IsCutBy a.question a.limits p)
 IsPrinted gives o Blank a old new p = OfFiles gives a old new (IsBlankBy a.question a.limits p)
@@ -55,8 +55,8 @@ IsPrinted gives o (Check name) a old new p =
 -- what is promised by it, once the directives of the cut and those of --without are removed: no preprocessing reads the header, and
 -- nothing cheaper separates
 abbrev pub IsPromised : {S T : Type 0} → Gives S → Opens S T → Command → Asked → (old new : S) → Printed → Type 0
-IsPromised gives o (Why most) a old new p = Unit {0}
-IsPromised gives o (Who with_chains most) a old new p = Unit {0}
+IsPromised gives o (Why fails most) a old new p = Unit {0}
+IsPromised gives o (Who with_chains fails most) a old new p = Unit {0}
 IsPromised gives o Graph a old new p = Unit {0}
 IsPromised gives o Cut a old new p = OfFiles gives a old new (λ given listing. CutHeadline a.question a.limits p listing)
 IsPromised gives o Blank a old new p = OfFiles gives a old new (λ given listing. BlankHeadline a.question a.limits p listing)

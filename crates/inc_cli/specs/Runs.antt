@@ -1,13 +1,13 @@
 -- What is asked about sources and headers, by the words and by the texts that they name.
 use Rattle.std.specs.Prelude.{◌≡◌, ◌⊎◌, ℕ, ◌&&◌, not, List, [], ◌∷◌, ◌++◌, Option, Some, None, Ok, Err, unwrap_or}
 use Rattle.inc_text.specs.declared.languages.Language.{Language}
-use Rattle.inc_lookup.specs.IncludePath.{NamedDir}
-use Rattle.inc_lookup.specs.Projects.{Layout}
+use Rattle.inc_lookup.specs.IncludePath.{NamedPath}
+use Rattle.inc_lookup.specs.Projects.{Layout, SearchPath}
 use Rattle.inc_report.specs.Terms as report
 use Rattle.inc_args.specs.Meaning.{Limits, Question}
 use Rattle.inc_graph.specs.Marks.{Cost, Mark}
 use Rattle.inc_inputs.specs.Ends.{EndPaths, are_ends, asked_ends}
-use Rattle.inc_inputs.specs.IncludePath.{dir_names, include_path}
+use Rattle.inc_inputs.specs.IncludePath.{include_path}
 use Rattle.inc_inputs.specs.Inputs.{Gives}
 use Rattle.inc_inputs.specs.Places.{Places, places_of}
 use Rattle.inc_inputs.specs.Reports.{Report, input_twice, no_ends}
@@ -44,12 +44,12 @@ pub record Opened : Type 0 where
   -- the names that no build defines
   pub undefined : List (List ℕ)
   -- the include path
-  pub dirs : List NamedDir
+  pub path : NamedPath
 
 -- what a build adds to a question, once the project stands: the include paths beside its own, with which of them its files are read as
 -- sources, and notes
 pub record Built : Type 0 where
-  pub others : List (List (List ℕ))
+  pub others : List SearchPath
   pub read_with : List (List ℕ)
   pub notes : List ℕ
 
@@ -73,10 +73,10 @@ asked_for language command o layout b ends places notes = record {
 
 -- what the texts hold, once the costs are known
 abbrev pub opened_by : Question → Texts → List Cost → Opened
-opened_by q texts costs = record { paths = paths_in q.files texts.list; costs = costs; undefined = q.undefined; dirs = include_path q.files [] }
+opened_by q texts costs = record { paths = paths_in q.files texts.list; costs = costs; undefined = q.undefined; path = include_path q.files [] }
 
 -- by what a build adds
-abbrev pub built_by : Layout → Added → (others : List (List (List ℕ))) → Built
+abbrev pub built_by : Layout → Added → (others : List SearchPath) → Built
 built_by layout a others = record { others = others; read_with = read_with layout a.compiled; notes = a.notes }
 
 -- once that is known
@@ -94,7 +94,7 @@ asked_listed language command q l a without fixed o layout =
 -- once the texts are opened
 abbrev pub asked_opened : {S : Type 0} → Language → Command → Question → Limits → Added → (without fixed : List Mark) → Opened → Step S Asked
 asked_opened language command q l a without fixed o =
-    then (comes_to (listed_layout o.paths (dir_names o.dirs))) (λ layout. asked_listed language command q l a without fixed o layout)
+    then (comes_to (listed_layout o.paths o.path)) (λ layout. asked_listed language command q l a without fixed o layout)
 
 -- by the texts, nothing more being read
 abbrev pub asked_by : {S : Type 0} → Language → Command → Question → Limits → Added → Texts → Step S Asked

@@ -24,8 +24,8 @@ abbrev pub seen_end : Result code.Answer Failure → Result Answer Report
 seen_end result = seen answer_in result
 
 abbrev pub seen_command : Command → commands.Command
-seen_command (command.Why most) = commands.Why most
-seen_command (command.Who with_chains most) = commands.Who with_chains most
+seen_command (command.Why fails most) = commands.Why fails most
+seen_command (command.Who with_chains fails most) = commands.Who with_chains fails most
 seen_command command.Graph = commands.Graph
 seen_command command.Cut = commands.Cut
 seen_command command.Blank = commands.Blank
@@ -39,7 +39,7 @@ asked_in paths layout question limits notes =
     record { paths = paths; layout = layout; question = question; limits = limits; notes = notes }
 
 abbrev pub opened_in : Opened → runs.Opened
-opened_in o = record { paths = map (λ p. p.now) o.paths.items; costs = o.costs.items; undefined = map (λ n. n.now) o.undefined.items; dirs = o.dirs.items }
+opened_in o = record { paths = map (λ p. p.now) o.paths.items; costs = o.costs.items; undefined = map (λ n. n.now) o.undefined.items; path = o.path }
 
 abbrev pub built_in : Built → runs.Built
 built_in b = record { others = b.others.items; read_with = map (λ l. l.items) b.read_with.items; notes = b.notes.items }

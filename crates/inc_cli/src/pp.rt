@@ -3,7 +3,7 @@ ghost use Rattle.std.specs.Prelude.{◌≡◌, ◌≢◌, ◌++◌, ℕ, Err, Li
 ghost use Rattle.inc_args.specs.Views.{seen_pp};
 ghost use Rattle.inc_pp.specs.Settings.{found_in_settings, marked_settings, usual_settings};
 ghost use Rattle.inc_cli.specs.Outputs.{IsRun};
-ghost use Rattle.inc_cli.specs.Preprocessings.{IsPreprocessed, PrintsEach, missing_of, pp_apart, pp_asked, pp_found, pp_named, pp_of, searched, with_texts, writes_beside, writes_texts};
+ghost use Rattle.inc_cli.specs.Preprocessings.{IsPreprocessed, PrintsEach, all_words, missing_of, pp_apart, pp_asked, pp_found, pp_named, pp_of, searched, with_texts, writes_beside, writes_texts};
 ghost use Rattle.inc_inputs.specs.Reports.{out_of_memory};
 ghost use Rattle.inc_inputs.specs.BuildProjects.{with_macros};
 ghost use Rattle.inc_inputs.specs.Steps.{Comes, next_of};
@@ -17,9 +17,9 @@ use inc_args::PpArgs;
 use inc_inputs::{
     BuildProject, Failure, Inputs, ListedFiles, MacroWord, PpTexts, are_no_files, are_one,
     are_twice, bytes_of, find_preprocessing, include_path, list_paths, listed_project, path_end_in,
-    read_pp_texts, read_pp_texts_beside, with_macros, write_if,
+    read_pp_texts, read_pp_texts_beside, with_macros, with_questions, write_if,
 };
-use inc_lookup::{NamedDir, Project};
+use inc_lookup::{NamedDir, NamedPath, Project};
 use inc_pp::{Missing, Settings};
 use inc_report::{End, PpQuestion, RunFault, run_pp};
 use inc_text::ByteSink;
@@ -179,20 +179,20 @@ fn preprocess_texts<I: Inputs, O: ByteSink>(
     let Ok(paths) = list_paths(alloc, &texts.list, path_end_in(&args.files)) else {
         return (Err(Failure::NoMemory), out);
     };
-    let Ok(words) = all_words(alloc, setup.seed, texts, macros, &args.words) else {
+    let Ok(words) = all_words(setup, args, texts, macros) else {
         return (Err(Failure::NoMemory), out);
     };
     let Ok(sources) = bytes_of(alloc, &args.sources) else {
         return (Err(Failure::NoMemory), out);
     };
-    let Ok(dirs) = searched(setup, args, texts) else {
+    let Ok(path) = searched(setup, args, texts) else {
         return (Err(Failure::NoMemory), out);
     };
-    let project = match listed_project(alloc, setup.seed, &paths, &dirs) {
+    let project = match listed_project(alloc, setup.seed, &paths, &path) {
         Ok(project) => project,
         Err(failure) => return (Err(failure), out),
     };
-    let settings = settings_of(setup, args, &dirs);
+    let settings = settings_of(setup, args, &path.dirs);
     let question = PpQuestion {
         sources: &sources,
         words: &words,
@@ -289,16 +289,30 @@ fn searched<'a>(
     setup: &Setup<'_>,
     args: &PpArgs<'a>,
     texts: &'a PpTexts,
-) -> Result<Vec<NamedDir<'a>>, AllocError>
-    ensures { IfOk result (λ dirs. dirs.items ≡ searched (seen_pp args.now) (pp_texts_in texts.now)) }
+) -> Result<NamedPath<'a>, AllocError>
+    ensures { IfOk result (λ path. path ≡ searched (seen_pp args.now) (pp_texts_in texts.now)) }
 {
     let compiler = texts.compiler.dirs(setup.alloc)?;
     include_path(setup.alloc, setup.seed, &args.files, &compiler)
 }
 
 /// The words that define macros: those of the compiler, those of the list of definitions, those of
-/// the entries of a build, and then those of the command line.
+/// the entries of a build, those of the command line, and then those of the questions of the language that none of these define.
 fn all_words<'a>(
+    setup: &Setup<'_>,
+    args: &PpArgs<'a>,
+    texts: &'a PpTexts,
+    macros: &'a [MacroWord],
+) -> Result<Vec<&'a [u8]>, AllocError>
+    ensures { IfOk result (λ all. map (λ w. w.now) all.items
+        ≡ all_words setup.now.language (seen_pp args.now) (map macro_of macros.now) (pp_texts_in texts.now)) }
+{
+    let words = given_words(setup.alloc, setup.seed, texts, macros, &args.words)?;
+    with_questions(setup.language, words, macros)
+}
+
+/// The same without the questions.
+fn given_words<'a>(
     alloc: Global,
     seed: u64,
     texts: &'a PpTexts,

@@ -31,7 +31,7 @@ use inc_inputs::{
     include_path, list_paths, listed_project, names_failure, other_paths, path_end_in, read_texts,
     read_texts_beside, read_with,
 };
-use inc_lookup::{IncludePath, NamedDir, Project};
+use inc_lookup::{IncludePath, NamedPath, Project};
 use inc_report::{
     End, Limits, NamedForm, Question, RunFault, run_blank, run_check, run_cut, run_graph,
     run_named, run_patch, run_who, run_why,
@@ -43,10 +43,11 @@ use std::mem::replace;
 /// What is asked about sources and headers.
 #[derive(Clone, Copy)]
 pub(crate) enum Command<'a> {
-    /// Why the sources include the headers, by at most so many chains.
-    Why(Option<usize>),
-    /// Which sources include the headers, with their chains or without, and at most so many of them.
-    Who(bool, Option<usize>),
+    /// Why the sources include the headers, by at most so many chains; that they do is a negative answer, or not.
+    Why(bool, Option<usize>),
+    /// Which sources include the headers, with their chains or without, and at most so many of them; that some do is a negative answer, or
+    /// not.
+    Who(bool, bool, Option<usize>),
     /// Which edges the sources reach, whatever the headers are.
     Graph,
     /// Which include directives to remove so that they no longer do.
@@ -67,8 +68,8 @@ impl<'a> Command<'a> {
         ensures { seen_command result ≡ bounded most (seen_command self.entry) }
     {
         match self {
-            Command::Why(_) => Command::Why(most),
-            Command::Who(with_chains, _) => Command::Who(with_chains, most),
+            Command::Why(fails, _) => Command::Why(fails, most),
+            Command::Who(with_chains, fails, _) => Command::Who(with_chains, fails, most),
             other => other,
         }
     }
@@ -123,7 +124,7 @@ struct Opened<'t> {
     /// The names that no build defines.
     undefined: Vec<&'t [u8]>,
     /// The include path.
-    dirs: Vec<NamedDir<'t>>,
+    path: NamedPath<'t>,
 }
 
 /// Reads what a question rests on, and answers it.
@@ -290,7 +291,7 @@ fn ask_texts<'t, I: Inputs, O: ByteSink>(
         Err(failure) => return (Err(failure), out),
     };
     let paths = opened.paths.as_slice();
-    let project = match listed_project(setup.alloc, setup.seed, paths, &opened.dirs) {
+    let project = match listed_project(setup.alloc, setup.seed, paths, &opened.path) {
         Ok(project) => project,
         Err(failure) => return (Err(failure), out),
     };
@@ -514,7 +515,7 @@ fn open_texts<'t>(
     ensures paths { IfOk result (λ opened. map (λ p. p.now) opened.paths.items
         ≡ paths_in (seen_question question.now).files list.now) }
     ensures undefined { IfOk result (λ opened. map (λ n. n.now) opened.undefined.items ≡ (seen_question question.now).undefined) }
-    ensures dirs { IfOk result (λ opened. opened.dirs.items ≡ include_path (seen_question question.now).files []) }
+    ensures path { IfOk result (λ opened. opened.path ≡ include_path (seen_question question.now).files []) }
     ensures fault { IfErr result (λ failure.
         AreCosts (unwrap_or (seen_limits limits.now).costs []) costs.now (Err (report_of failure))) }
 {
@@ -522,12 +523,12 @@ fn open_texts<'t>(
     let costs = costs_of(alloc, costs, limits.costs.unwrap_or(""))?;
     let paths = list_paths(alloc, list, path_end_in(&question.files))?;
     let undefined = bytes_of_words(alloc, &question.undefined)?;
-    let dirs = include_path(alloc, setup.seed, &question.files, &[])?;
+    let path = include_path(alloc, setup.seed, &question.files, &[])?;
     Ok(Opened {
         paths,
         costs,
         undefined,
-        dirs,
+        path,
     })
 }
 
@@ -551,10 +552,19 @@ fn answer<I: Inputs, O: ByteSink>(
 {
     let mut files = files;
     match command {
-        Command::Why(most) => run_why(alloc, project, &mut files, question, most, out),
-        Command::Who(with_chains, most) => {
-            run_who(alloc, project, &mut files, question, with_chains, most, out)
+        Command::Why(fails, most) => {
+            run_why(alloc, project, &mut files, question, fails, most, out)
         }
+        Command::Who(with_chains, fails, most) => run_who(
+            alloc,
+            project,
+            &mut files,
+            question,
+            with_chains,
+            fails,
+            most,
+            out,
+        ),
         Command::Graph => run_graph(alloc, project, &mut files, question, out),
         Command::Cut => run_cut(alloc, project, &mut files, question, limits, out),
         Command::Blank => {

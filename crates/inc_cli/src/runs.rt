@@ -233,7 +233,8 @@ fn answer_in<I: Inputs, O: ByteSink>(
             Err(failure) => (Err(failure), out),
         },
         Request::Why(question, format) => {
-            match formatted(setup.is_terminal, *format, Command::Why(None), Asked::Why) {
+            let text = Command::Why(format.fails, None);
+            match formatted(setup.is_terminal, *format, text, Asked::Why) {
                 Ok(command) => ask(setup, command, question, &no_limits, inputs, out),
                 Err(failure) => (Err(failure), out),
             }
@@ -273,7 +274,7 @@ fn who_of(
     ensures { seen seen_command result ≡ who_of is_terminal (seen_question question.now) (seen_format format.entry) }
 {
     if are_ends(question) {
-        let text = Command::Who(format.all, None);
+        let text = Command::Who(format.all, format.fails, None);
         return formatted(is_terminal, format, text, Asked::Who);
     }
     Err(Failure::NoHeaders)
@@ -326,7 +327,7 @@ fn formatted(
     match most_of(format.most) {
         Ok(most) => {
             let name = format.name.unwrap_or(default_format(is_terminal));
-            in_format(name, format.all, most, text, asked)
+            in_format(name, format.all, format.fails, most, text, asked)
         }
         Err(failure) => Err(failure),
     }
@@ -349,11 +350,12 @@ fn most_of(word: Option<&str>) -> Result<Option<usize>, Failure>
 fn in_format(
     name: &str,
     all: bool,
+    fails: bool,
     most: Option<usize>,
     text: Command<'static>,
     asked: Asked,
 ) -> Result<Command<'static>, Failure>
-    ensures { seen seen_command result ≡ in_format name.now all most (seen_command text.entry) asked }
+    ensures { seen seen_command result ≡ in_format name.now all fails most (seen_command text.entry) asked }
 {
     if name == "text" {
         return Ok(text.bounded(most));
@@ -363,6 +365,7 @@ fn in_format(
             asked,
             format,
             all,
+            fails,
             most,
         })),
         None => Err(Failure::NoFormat),

@@ -14,7 +14,7 @@ use Rattle.inc_directive.specs.FileDirectives.{Directive}
 use Rattle.inc_directive.specs.declared.files.FileFault.{FileFault}
 use Rattle.inc_lookup.specs.Paths.{normal_form}
 use Rattle.inc_text.specs.PhaseText.{phase_text}
-use Rattle.inc_lookup.specs.Projects.{Layout, Listing, Spot, bytes_at, layout_of, path_at, found_among, found_as, found_at, first_some, place_of, candidates, File}
+use Rattle.inc_lookup.specs.Projects.{Layout, Listing, SearchPath, Spot, bytes_at, layout_of, path_at, found_among, found_as, found_at, first_some, place_of, candidates, File}
 use Rattle.inc_lookup.specs.declared.projects.Found.{Found}
 use Rattle.inc_graph.specs.MissingLists.{Missing}
 use Rattle.inc_graph.specs.FileEntries.{Entry}
@@ -153,10 +153,10 @@ found_leads P (Some f) lead h l = target_leads P lead f.file l (h f refl)
 
 pub named_within : (layout : Layout) (at : Found) (o : Option Named) (t : Found) → option_and_then (named_place layout at) o ≡ Some t → t.file < length layout.paths
 named_within layout at None t e = cc
-named_within layout at (Some h) t e = among_within layout.paths (candidates layout.dirs (path_at layout at.file) h.form (search_after h.by at.next) h.name) t e
+named_within layout at (Some h) t e = among_within layout.paths (candidates layout.search (path_at layout at.file) h.form (search_after h.by at.next) h.name) t e
 
 -- every include path is one of the same files
-pub same_paths : (others : List (List (List ℕ))) (layout : Layout) (path : ℕ) → (layout_in others layout path).paths ≡ layout.paths
+pub same_paths : (others : List SearchPath) (layout : Layout) (path : ℕ) → (layout_in others layout path).paths ≡ layout.paths
 same_paths others layout path = refl
 
 lead_within : (files : ℕ) (layouts : ℕ → Layout) → ((path : ℕ) → length (layouts path).paths ≡ files) → (starts : List Start) (file : ℕ) (d : Directive) → LeadsBy (λ to. to < files) (leads layouts starts file d)

@@ -61,10 +61,10 @@ hits_find layout file index form name None = refl
 hits_find layout file index form name (Some k) = by_name (is_absolute name)
   where
     by_name : (b : Bool)
-        → first_hit k (filter_map (found_at layout.paths) (cond b (record { path = name; next = None } ∷ []) (map (spot_of name) (path_from 0 (drop 0 layout.dirs)))))
-        ≡ first_some (map (found_at layout.paths) (cond b (record { path = name; next = None } ∷ []) (map (spot_of name) (path_from k (drop k layout.dirs)))))
+        → first_hit k (filter_map (found_at layout.paths) (cond b (record { path = name; next = None } ∷ []) (map (spot_of name) (path_from 0 (drop 0 layout.search.dirs)))))
+        ≡ first_some (map (found_at layout.paths) (cond b (record { path = name; next = None } ∷ []) (map (spot_of name) (path_from k (drop k layout.search.dirs)))))
     by_name true = alone k (found_as layout.paths name)
-    by_name false = skip layout.paths name k k 0 layout.dirs (sym (zero-add k))
+    by_name false = skip layout.paths name k k 0 layout.search.dirs (sym (zero-add k))
 
 ---- their order
 
@@ -109,9 +109,9 @@ one_parted k (Some f) (suc i) zero d le low past = absurd (omega arith)
 pub hits_rise : (layout : Layout) (name : List ℕ) → AreRising (hits_from layout name 0)
 hits_rise layout name k = by_name (is_absolute name)
   where
-    by_name : (b : Bool) → IsPartitionedBy (is_past k) (filter_map (found_at layout.paths) (cond b (record { path = name; next = None } ∷ []) (map (spot_of name) (path_from 0 (drop 0 layout.dirs)))))
+    by_name : (b : Bool) → IsPartitionedBy (is_past k) (filter_map (found_at layout.paths) (cond b (record { path = name; next = None } ∷ []) (map (spot_of name) (path_from 0 (drop 0 layout.search.dirs)))))
     by_name true = one_parted k (found_as layout.paths name)
-    by_name false = parted k 1 (hits_in layout.paths name 0 layout.dirs) (rises_in layout.paths name 0 layout.dirs)
+    by_name false = parted k 1 (hits_in layout.paths name 0 layout.search.dirs) (rises_in layout.paths name 0 layout.search.dirs)
 
 -- the first that is not past is at the point that parts them
 pub hit_there : (k i : ℕ) (hs : List Found) → i ≤ length hs → IsPartitionPoint (λ h. is_past k h ≡ true) (λ h. is_past k h ≡ false) hs i → slice_get hs i ≡ first_hit k hs
@@ -181,7 +181,7 @@ none_in paths name a (d ∷ ds) is = by_found (found_as paths (joined_path d nam
 -- where the search goes on after a hit, and what is left then
 pub record IsNext (layout : Layout) (name : List ℕ) (k : ℕ) (h : Found) : Type 0 where
   pub left : hits_from layout name k ≡ h ∷ hits_left layout name h.next
-  pub later : IfSome h.next (λ (j : ℕ). (k < j) × (j ≤ length layout.dirs))
+  pub later : IfSome h.next (λ (j : ℕ). (k < j) × (j ≤ length layout.search.dirs))
 
 one_left : (layout : Layout) (name : List ℕ) (h : Found) (o : Option ℕ) → first_some (option_map one_at o ∷ []) ≡ Some h
     → (cons_option (option_map one_at o) [] ≡ h ∷ []) × (h.next ≡ None)
@@ -193,29 +193,29 @@ one_left layout name h (Some f) is =
 if_some : (P : ℕ → Type 0) (o : Option ℕ) (n : ℕ) → o ≡ Some n → P n → IfSome o P
 if_some P o n is p = subst (λ (x : Option ℕ). IfSome x P) (sym is) p
 
-pub hit_next : (layout : Layout) (from : List ℕ) (form : Form) (name : List ℕ) (k : ℕ) (h : Found) → k ≤ length layout.dirs → found_place layout from form (Some k) name ≡ Some h → IsNext layout name k h
+pub hit_next : (layout : Layout) (from : List ℕ) (form : Form) (name : List ℕ) (k : ℕ) (h : Found) → k ≤ length layout.search.dirs → found_place layout from form (Some k) name ≡ Some h → IsNext layout name k h
 hit_next layout from form name k h low is = by_name (is_absolute name) refl is
   where
-    by_name : (b : Bool) → is_absolute name ≡ b → first_some (map (found_at layout.paths) (cond b (record { path = name; next = None } ∷ []) (map (spot_of name) (path_from k (drop k layout.dirs))))) ≡ Some h
+    by_name : (b : Bool) → is_absolute name ≡ b → first_some (map (found_at layout.paths) (cond b (record { path = name; next = None } ∷ []) (map (spot_of name) (path_from k (drop k layout.search.dirs))))) ≡ Some h
         → IsNext layout name k h
     by_name true e first =
         let one = one_left layout name h (found_as layout.paths name) first in
         record {
-          left = ap (λ (b : Bool). filter_map (found_at layout.paths) (cond b (record { path = name; next = None } ∷ []) (map (spot_of name) (path_from k (drop k layout.dirs))))) e ∙ one.0
+          left = ap (λ (b : Bool). filter_map (found_at layout.paths) (cond b (record { path = name; next = None } ∷ []) (map (spot_of name) (path_from k (drop k layout.search.dirs))))) e ∙ one.0
               ∙ ap (λ (o : Option ℕ). h ∷ hits_left layout name o) (sym one.1);
-          later = subst (λ (o : Option ℕ). IfSome o (λ (j : ℕ). (k < j) × (j ≤ length layout.dirs))) (sym one.1) tt;
+          later = subst (λ (o : Option ℕ). IfSome o (λ (j : ℕ). (k < j) × (j ≤ length layout.search.dirs))) (sym one.1) tt;
         }
     by_name false e first =
-        let f = is_first layout.paths name k (drop k layout.dirs) h first in
+        let f = is_first layout.paths name k (drop k layout.search.dirs) h first in
         let j : ℕ = k + f.passed + 1 in
-        let long = length-drop k layout.dirs in
-        let rest : drop (f.passed + 1) (drop k layout.dirs) ≡ drop j layout.dirs = drop-drop (f.passed + 1) k layout.dirs ∙ ap (λ (n : ℕ). drop n layout.dirs) (plus_one k f.passed) in
+        let long = length-drop k layout.search.dirs in
+        let rest : drop (f.passed + 1) (drop k layout.search.dirs) ≡ drop j layout.search.dirs = drop-drop (f.passed + 1) k layout.search.dirs ∙ ap (λ (n : ℕ). drop n layout.search.dirs) (plus_one k f.passed) in
         record {
-          left = ap (λ (b : Bool). filter_map (found_at layout.paths) (cond b (record { path = name; next = None } ∷ []) (map (spot_of name) (path_from k (drop k layout.dirs))))) e ∙ f.rest
+          left = ap (λ (b : Bool). filter_map (found_at layout.paths) (cond b (record { path = name; next = None } ∷ []) (map (spot_of name) (path_from k (drop k layout.search.dirs))))) e ∙ f.rest
               ∙ ap (λ (l : List (List ℕ)). h ∷ hits_in layout.paths name j l) rest
-              ∙ ap (λ (b : Bool). h ∷ filter_map (found_at layout.paths) (cond b (record { path = name; next = None } ∷ []) (map (spot_of name) (path_from j (drop j layout.dirs))))) (sym e)
+              ∙ ap (λ (b : Bool). h ∷ filter_map (found_at layout.paths) (cond b (record { path = name; next = None } ∷ []) (map (spot_of name) (path_from j (drop j layout.search.dirs))))) (sym e)
               ∙ ap (λ (o : Option ℕ). h ∷ hits_left layout name o) (sym f.goes_on);
-          later = if_some (λ (n : ℕ). (k < n) × (n ≤ length layout.dirs)) h.next j f.goes_on (omega arith, omega (arith, f.within, long, low));
+          later = if_some (λ (n : ℕ). (k < n) × (n ≤ length layout.search.dirs)) h.next j f.goes_on (omega arith, omega (arith, f.within, long, low));
         }
 
 pub hit_none : (layout : Layout) (from : List ℕ) (form : Form) (name : List ℕ) (k : ℕ) → found_place layout from form (Some k) name ≡ None → hits_from layout name k ≡ []
@@ -225,17 +225,17 @@ hit_none layout from form name k is = by_name (is_absolute name) refl is
     by_one None e = refl
     by_one (Some f) e = absurd (none-some (one_at f) (sym e))
 
-    by_name : (b : Bool) → is_absolute name ≡ b → first_some (map (found_at layout.paths) (cond b (record { path = name; next = None } ∷ []) (map (spot_of name) (path_from k (drop k layout.dirs))))) ≡ None
+    by_name : (b : Bool) → is_absolute name ≡ b → first_some (map (found_at layout.paths) (cond b (record { path = name; next = None } ∷ []) (map (spot_of name) (path_from k (drop k layout.search.dirs))))) ≡ None
         → hits_from layout name k ≡ []
     by_name true e first =
-        ap (λ (b : Bool). filter_map (found_at layout.paths) (cond b (record { path = name; next = None } ∷ []) (map (spot_of name) (path_from k (drop k layout.dirs))))) e ∙ by_one (found_as layout.paths name) first
+        ap (λ (b : Bool). filter_map (found_at layout.paths) (cond b (record { path = name; next = None } ∷ []) (map (spot_of name) (path_from k (drop k layout.search.dirs))))) e ∙ by_one (found_as layout.paths name) first
     by_name false e first =
-        ap (λ (b : Bool). filter_map (found_at layout.paths) (cond b (record { path = name; next = None } ∷ []) (map (spot_of name) (path_from k (drop k layout.dirs))))) e ∙ none_in layout.paths name k (drop k layout.dirs) first
+        ap (λ (b : Bool). filter_map (found_at layout.paths) (cond b (record { path = name; next = None } ∷ []) (map (spot_of name) (path_from k (drop k layout.search.dirs))))) e ∙ none_in layout.paths name k (drop k layout.search.dirs) first
 
 ---- as the code has them
 
-low_left : (layout : Layout) (left : Option ℕ) (k : ℕ) → left ≡ Some k → IfSome left (λ (j : ℕ). j ≤ length layout.dirs) → k ≤ length layout.dirs
-low_left layout left k is h = subst (λ (o : Option ℕ). IfSome o (λ (j : ℕ). j ≤ length layout.dirs)) is h
+low_left : (layout : Layout) (left : Option ℕ) (k : ℕ) → left ≡ Some k → IfSome left (λ (j : ℕ). j ≤ length layout.search.dirs) → k ≤ length layout.search.dirs
+low_left layout left k is h = subst (λ (o : Option ℕ). IfSome o (λ (j : ℕ). j ≤ length layout.search.dirs)) is h
 
 -- how far the search has to go
 abbrev pub hits_measure : ℕ → Option ℕ → ℕ
@@ -246,18 +246,18 @@ smaller_by : (dirs k : ℕ) (next : Option ℕ) → k ≤ dirs → IfSome next (
 smaller_by dirs k None low h = omega arith
 smaller_by dirs k (Some j) low h = omega (arith, h.0, h.1)
 
-module _ (layout : Layout) (from : List ℕ) (form : Form) (name : List ℕ) (left : Option ℕ) (k : ℕ) (is : left ≡ Some k) (within : IfSome left (λ (j : ℕ). j ≤ length layout.dirs)) where
-  pub smaller : (h : Found) → found_place layout from form (Some k) name ≡ Some h → hits_measure (length layout.dirs) h.next < hits_measure (length layout.dirs) left
+module _ (layout : Layout) (from : List ℕ) (form : Form) (name : List ℕ) (left : Option ℕ) (k : ℕ) (is : left ≡ Some k) (within : IfSome left (λ (j : ℕ). j ≤ length layout.search.dirs)) where
+  pub smaller : (h : Found) → found_place layout from form (Some k) name ≡ Some h → hits_measure (length layout.search.dirs) h.next < hits_measure (length layout.search.dirs) left
   smaller h found =
       let low = low_left layout left k is within in
-      subst (λ (o : Option ℕ). hits_measure (length layout.dirs) h.next < hits_measure (length layout.dirs) o) (sym is)
-      (smaller_by (length layout.dirs) k h.next low (hit_next layout from form name k h low found).later)
+      subst (λ (o : Option ℕ). hits_measure (length layout.search.dirs) h.next < hits_measure (length layout.search.dirs) o) (sym is)
+      (smaller_by (length layout.search.dirs) k h.next low (hit_next layout from form name k h low found).later)
 
-  later_within : (o : Option ℕ) → IfSome o (λ (j : ℕ). (k < j) × (j ≤ length layout.dirs)) → IfSome o (λ (j : ℕ). j ≤ length layout.dirs)
+  later_within : (o : Option ℕ) → IfSome o (λ (j : ℕ). (k < j) × (j ≤ length layout.search.dirs)) → IfSome o (λ (j : ℕ). j ≤ length layout.search.dirs)
   later_within None h = tt
   later_within (Some j) h = h.1
 
-  pub next_within : (h : Found) → found_place layout from form (Some k) name ≡ Some h → IfSome h.next (λ (j : ℕ). j ≤ length layout.dirs)
+  pub next_within : (h : Found) → found_place layout from form (Some k) name ≡ Some h → IfSome h.next (λ (j : ℕ). j ≤ length layout.search.dirs)
   next_within h found = later_within h.next (hit_next layout from form name k h (low_left layout left k is within) found).later
 
   pub hit_pushed : (hits new all : List Found) (h : Found) → found_place layout from form (Some k) name ≡ Some h → new ≡ hits ++ h ∷ [] → hits ++ hits_left layout name left ≡ all

@@ -36,7 +36,7 @@ pub record Next : Type 0 where
 -- what is found of a name in the directories of the include path from a place on, or of an absolute one
 abbrev pub hits_from : Layout → List ℕ → ℕ → List Found
 hits_from layout name k =
-    filter_map (found_at layout.paths) (if is_absolute name then record { path = name; next = None } ∷ [] else map (spot_of name) (path_from k (drop k layout.dirs)))
+    filter_map (found_at layout.paths) (if is_absolute name then record { path = name; next = None } ∷ [] else map (spot_of name) (path_from k (drop k layout.search.dirs)))
 
 abbrev pub next_at : Layout → (file index : ℕ) → Form → List ℕ → Next
 next_at layout file index form name = record { index = index; alone = found_place layout (path_at layout file) form None name; hits = hits_from layout name 0 }

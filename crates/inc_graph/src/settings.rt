@@ -88,7 +88,7 @@ impl<'r> Setting<'r> {
             return Lookup::new(project, project.include_path());
         }
         match self.others.get(path - 1) {
-            Some(dirs) => Lookup::new(project, dirs),
+            Some(search) => Lookup::new(project, search),
             None => unreachable!(),
         }
     }

@@ -35,7 +35,7 @@ not_there false o e n = refl
 pub included_nowhere : (layout : Layout) (name : List ℕ) → ◌≡◌ {A = Option ℕ} None (if nat_lt 0 (length layout.paths) then Some 0 else None)
     → ◌≡◌ {A = Option ℕ} None (included layout name)
 included_nowhere layout name e =
-    found_without layout.paths (candidates layout.dirs [] Angled None name) (not_there (nat_lt 0 (length layout.paths)) None e refl)
+    found_without layout.paths (candidates layout.search [] Angled None name) (not_there (nat_lt 0 (length layout.paths)) None e refl)
 
 ---- notes
 

@@ -18,5 +18,6 @@ pub mod PlaceLemmas
 pub mod PlaceMarks
 pub mod PrintedMarks
 pub mod ProjectLemmas
+pub mod QuestionLemmas
 pub mod SourceLemmas
 pub mod StepLemmas

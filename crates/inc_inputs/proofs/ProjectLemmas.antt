@@ -20,15 +20,19 @@ paths_more {X} f files xs at x k l known more low is noted named =
     ∙ ap (λ (ds : List X). with_lines k (all_empty files known (map f ds))) (sym (drop_more xs at x low))
 
 -- directories of all sorts
-pub path_noted : (files : List (List ℕ)) (d : Dirs) (k l m n : Kept) (ks ls ms : List (List ℕ))
+pub path_noted : (files : List (List ℕ)) (d : Dirs) (k l m n o : Kept) (ks ls ms ns : List (List ℕ))
     → l ≡ with_lines k (empty_lines files (codes "-I") ks d.dirs) → ls ≡ once ks d.dirs
-    → m ≡ with_lines l (empty_lines files (codes "-isystem") ls d.system) → ms ≡ once ls d.system
-    → n ≡ with_lines m (empty_lines files (codes "-idirafter") ms d.last) → n ≡ with_lines k (path_empty files ks d)
-path_noted files d k l m n ks ls ms g h i j last =
+    → m ≡ with_lines l (empty_lines files (codes "-iquote") ls d.quoted) → ms ≡ once ls d.quoted
+    → n ≡ with_lines m (empty_lines files (codes "-isystem") ms d.system) → ns ≡ once ms d.system
+    → o ≡ with_lines n (empty_lines files (codes "-idirafter") ns d.last) → o ≡ with_lines k (path_empty files ks d)
+path_noted files d k l m n o ks ls ms ns first_is ls_are second_is ms_are third_is ns_are last =
     let first : List (List ℕ) = empty_lines files (codes "-I") ks d.dirs in
-    let second : List (List ℕ) = empty_lines files (codes "-isystem") (once ks d.dirs) d.system in
-    let third : List (List ℕ) = empty_lines files (codes "-idirafter") (once (once ks d.dirs) d.system) d.last in
-    rw (last, j, i, h, g) (sym (with_lines-append k first (second ++ third) ∙ with_lines-append (with_lines k first) second third))
+    let second : List (List ℕ) = empty_lines files (codes "-iquote") (once ks d.dirs) d.quoted in
+    let third : List (List ℕ) = empty_lines files (codes "-isystem") (once (once ks d.dirs) d.quoted) d.system in
+    let fourth : List (List ℕ) = empty_lines files (codes "-idirafter") (once (once (once ks d.dirs) d.quoted) d.system) d.last in
+    rw (last, ns_are, third_is, ms_are, second_is, ls_are, first_is)
+    (sym (with_lines-append k first (second ++ (third ++ fourth)) ∙ with_lines-append (with_lines k first) second (third ++ fourth)
+    ∙ with_lines-append (with_lines (with_lines k first) second) third fourth))
 
 -- an include path and others
 pub paths_noted : (files : List (List ℕ)) (d : Dirs) (ds : List Dirs) (k l m : Kept) (ks ls : List (List ℕ)) → k ≡ none → ks ≡ []
@@ -40,7 +44,7 @@ paths_noted files d ds k l m ks ls e f g h last =
 pub project_made : (g : Ground) (files headers : List (List ℕ)) (words : FileWords) (c : Chosen) (own : Dirs) (used : List ℕ) (list : List ℕ) (hs : List (List ℕ)) (ms : List (Kind × List ℕ)) (a : Added)
     → own ≡ all_dirs g (rows_at g.build c.uses) words → used ≡ used_paths c.uses → list ≡ nul_ended files → hs ≡ map (header_form g files) headers → ms ≡ macros_of g c.uses
     → a ≡ added_by g files c own (other_dirs g words used) (compiled_of g used)
-    → (let f : Found = record { list = list; dirs = own.dirs; system = own.system; last = own.last; sources = c.sources; headers = hs; macros = ms; added = a } in f)
+    → (let f : Found = record { list = list; dirs = own.dirs; quoted = own.quoted; system = own.system; last = own.last; sources = c.sources; headers = hs; macros = ms; added = a } in f)
     ≡ found_of_uses g files headers words c
 project_made g files headers words c own used list hs ms a d e h i j k = rw (k, j, i, h, e, d) refl
 

@@ -1,40 +1,37 @@
 -- The include paths of a build beside the project's own, and with which of them its files are read as sources, once the project stands.
 use Rattle.std.specs.Prelude.{ℕ, List, [], ◌∷◌, ◌++◌, Option, Some, None, Result, Ok, Err, get_or, length, replicate, slice_set}
-use Rattle.inc_lookup.specs.Projects.{Layout, found_as}
+use Rattle.inc_lookup.specs.Projects.{Layout, SearchPath, found_as}
 use Rattle.inc_inputs.specs.BuildProjects.{BuildSource, Dirs, dir_words}
-use Rattle.inc_inputs.specs.IncludePath.{dir_names, include_path}
+use Rattle.inc_lookup.specs.IncludePath.{NamedPath}
+use Rattle.inc_inputs.specs.IncludePath.{include_path}
 use Rattle.inc_inputs.specs.Reports.{Report}
 use Rattle.inc_inputs.specs.Texts.{listed_layout}
 
 ---- include paths
 
--- directories in normal form, each once
-abbrev pub Path : Type 0
-Path = List (List ℕ)
-
-abbrev pub path_of : Result Layout Report → Result Path Report
-path_of (Ok layout) = Ok layout.dirs
+abbrev pub path_of : Result Layout Report → Result SearchPath Report
+path_of (Ok layout) = Ok layout.search
 path_of (Err r) = Err r
 
--- by the directories of a project without files
-abbrev pub path_by : (names : List (List ℕ)) → Result Path Report
-path_by names = path_of (listed_layout [] names)
+-- that of a project without files
+abbrev pub path_by : NamedPath → Result SearchPath Report
+path_by path = path_of (listed_layout [] path)
 
 -- what the project's own would be by the same directories
-abbrev pub path_in : Dirs → Result Path Report
-path_in d = path_by (dir_names (include_path (dir_words d) []))
+abbrev pub path_in : Dirs → Result SearchPath Report
+path_in d = path_by (include_path (dir_words d) [])
 
 -- one before others
-abbrev pub path_before : Path → Result (List Path) Report → Result (List Path) Report
+abbrev pub path_before : SearchPath → Result (List SearchPath) Report → Result (List SearchPath) Report
 path_before p (Ok ps) = Ok (p ∷ ps)
 path_before p (Err r) = Err r
 
-abbrev pub path_and : Result Path Report → Result (List Path) Report → Result (List Path) Report
+abbrev pub path_and : Result SearchPath Report → Result (List SearchPath) Report → Result (List SearchPath) Report
 path_and (Ok p) rest = path_before p rest
 path_and (Err r) rest = Err r
 
 -- all of them, or the report of the first that is none
-abbrev pub include_paths_of : List Dirs → Result (List Path) Report
+abbrev pub include_paths_of : List Dirs → Result (List SearchPath) Report
 include_paths_of [] = Ok []
 include_paths_of (d ∷ ds) = path_and (path_in d) (include_paths_of ds)
 

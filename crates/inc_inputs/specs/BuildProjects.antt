@@ -332,6 +332,7 @@ dirs_of g kind rows = map (λ (r : Row). form_of g.here g.is_relative r.path) (f
 -- the include path by the rows of entries and by words, which come after them
 pub record Dirs : Type 0 where
   pub dirs : List (List ℕ)
+  pub quoted : List (List ℕ)
   pub system : List (List ℕ)
   pub last : List (List ℕ)
 
@@ -341,6 +342,7 @@ dirs_and g kind rows words = dirs_of g kind rows ++ map (form g.here g.is_relati
 abbrev pub all_dirs : Ground → List Row → FileWords → Dirs
 all_dirs g rows words = record {
   dirs = dirs_and g Searched rows words.dirs;
+  quoted = dirs_and g Quoted rows words.quoted;
   system = dirs_and g System rows words.system;
   last = dirs_and g Last rows words.last;
 }
@@ -406,15 +408,12 @@ abbrev pub are_of_one_path : Ground → List Use → Result (Unit {0}) Report
 are_of_one_path g [] = Ok tt
 are_of_one_path g (u ∷ us) = no_other g u (other_path u.configuration us)
 
--- -iquote DIR, -imacros FILE and -include FILE: an answer without them would be wrong
+-- -imacros FILE and -include FILE: an answer without them would be wrong
 abbrev pub is_unsupported : Kind → Bool
-is_unsupported kind = is_kind kind Quoted || is_kind kind Macros || is_kind kind Included
-
-abbrev pub row_value : Ground → Row → List ℕ
-row_value g r = if is_kind r.kind Quoted then form_of g.here g.is_relative r.path else r.name
+is_unsupported kind = is_kind kind Macros || is_kind kind Included
 
 abbrev pub row_report : Ground → (entry : ℕ) → Row → Report
-row_report g entry r = unsupported g.name (suc entry) (option_front r.kind ++ shown (row_value g r))
+row_report g entry r = unsupported g.name (suc entry) (option_front r.kind ++ shown r.name)
 
 abbrev pub rows_fault : Ground → (entry : ℕ) → List Row → Result (Unit {0}) Report
 rows_fault g entry [] = Ok tt
@@ -492,11 +491,12 @@ empty_lines files option known (d ∷ ds) = if_empty files option known d ++ emp
 -- those of an include path
 abbrev pub path_empty : (files : List (List ℕ)) → (known : List (List ℕ)) → Dirs → List (List ℕ)
 path_empty files known d =
-    empty_lines files (codes "-I") known d.dirs ++ (empty_lines files (codes "-isystem") (once known d.dirs) d.system
-    ++ empty_lines files (codes "-idirafter") (once (once known d.dirs) d.system) d.last)
+    empty_lines files (codes "-I") known d.dirs ++ (empty_lines files (codes "-iquote") (once known d.dirs) d.quoted
+    ++ (empty_lines files (codes "-isystem") (once (once known d.dirs) d.quoted) d.system
+    ++ empty_lines files (codes "-idirafter") (once (once (once known d.dirs) d.quoted) d.system) d.last))
 
 abbrev pub known_with : (known : List (List ℕ)) → Dirs → List (List ℕ)
-known_with known d = once (once (once known d.dirs) d.system) d.last
+known_with known d = once (once (once (once known d.dirs) d.quoted) d.system) d.last
 
 -- those of several, each directory once
 abbrev pub all_empty : (files : List (List ℕ)) → (known : List (List ℕ)) → List Dirs → List (List ℕ)
@@ -524,6 +524,7 @@ none_added = record { notes = []; others = []; compiled = [] }
 pub record Found : Type 0 where
   pub list : List ℕ
   pub dirs : List (List ℕ)
+  pub quoted : List (List ℕ)
   pub system : List (List ℕ)
   pub last : List (List ℕ)
   pub sources : List (List ℕ)
@@ -547,6 +548,7 @@ abbrev pub found_with : Ground → (files headers : List (List ℕ)) → Chosen 
 found_with g files headers c d added = record {
   list = nul_ended files;
   dirs = d.dirs;
+  quoted = d.quoted;
   system = d.system;
   last = d.last;
   sources = c.sources;
@@ -573,10 +575,10 @@ found_by_choice g files words w (Ok c) =
 ---- the words of a question, with those that a build gives in place of its own
 
 abbrev pub dir_words : Dirs → FileWords
-dir_words d = record { build = None; list = None; is_null = true; roots = []; dirs = d.dirs; system = d.system; last = d.last }
+dir_words d = record { build = None; list = None; is_null = true; roots = []; dirs = d.dirs; quoted = d.quoted; system = d.system; last = d.last }
 
 abbrev pub own_dirs : Found → Dirs
-own_dirs f = record { dirs = f.dirs; system = f.system; last = f.last }
+own_dirs f = record { dirs = f.dirs; quoted = f.quoted; system = f.system; last = f.last }
 
 abbrev pub found_files : Found → FileWords
 found_files f = dir_words (own_dirs f)
@@ -625,7 +627,7 @@ abbrev pub are_ends_utf8 : Found → Bool
 are_ends_utf8 f = are_utf8 f.sources && are_utf8 f.headers
 
 abbrev pub are_dirs_utf8 : Found → Bool
-are_dirs_utf8 f = are_utf8 f.dirs && (are_utf8 f.system && are_utf8 f.last)
+are_dirs_utf8 f = are_utf8 f.dirs && (are_utf8 f.quoted && (are_utf8 f.system && are_utf8 f.last))
 
 abbrev pub words_fault : Found → Option Report
 words_fault f = if are_ends_utf8 f && are_dirs_utf8 f then None else Some not_utf8

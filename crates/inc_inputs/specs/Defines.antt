@@ -1,12 +1,13 @@
 -- Lists of definitions, as compilers print them: `#define NAME BODY` or `#define NAME(PARAMETERS) BODY`, one a line. Each stands for a word
 -- of the command line, `NAME=BODY` or `NAME(PARAMETERS)=BODY`. A list that describes a compiler has lines `dir PATH`, too, for the
--- directories of its system's headers.
+-- directories of its system's headers, and lines `has NAME(ARG) NUMBER` for its answers to questions.
 use Rattle.std.specs.Prelude.{◌≡◌, ◌≤◌, ℕ, ◌+◌, ◌==◌, ◌&&◌, ◌||◌, not, Bool, true, false, List, [], ◌∷◌, ◌++◌, Option, Some, None, Result, Ok, Err, if◌then◌else◌, length, take, drop, nat_lt, nat_le, slice_index, codes, bytes_eq, filter_map, option_map}
 use Rattle.std.specs.List.{list_any, prefix_len, slice_split}
-use Rattle.inc_text.specs.Ascii.{blank, close_parenthesis, equals, line_feed, open_parenthesis}
+use Rattle.inc_text.specs.Ascii.{blank, equals, line_feed, open_parenthesis}
 use Rattle.inc_text.specs.declared.languages.Language.{Language}
 use Rattle.inc_macro.specs.Macros.{is_among, predefined_names}
 use Rattle.inc_inputs.specs.Lists.{list_paths, without_return}
+use Rattle.inc_inputs.specs.Questions.{answer_in, answer_words, begins_answer, close_len}
 use Rattle.inc_inputs.specs.declared.file_lists.PathEnd.TheVariants.{LineFeed}
 use Rattle.inc_inputs.specs.declared.defines.Defined.{Defined}
 
@@ -18,7 +19,7 @@ name_len text = prefix_len (λ b. not (b == blank || b == open_parenthesis)) tex
 
 -- how long the parameters are, with their parentheses; one more than the text has where there is no `)`
 abbrev pub parameters_len : List ℕ → ℕ
-parameters_len text = if slice_index text 0 == open_parenthesis then prefix_len (λ b. not (b == close_parenthesis)) text + 1 else 0
+parameters_len text = if slice_index text 0 == open_parenthesis then close_len text + 1 else 0
 
 -- how long the name is with its parameters
 abbrev pub head_len : List ℕ → ℕ
@@ -75,9 +76,12 @@ names_dir line = nat_lt 4 (length line) && bytes_eq (take 4 line) dir_start
 abbrev pub dir_in : List ℕ → Option (List ℕ)
 dir_in line = if names_dir line then Some (drop 4 line) else None
 
--- the words of a line: none of one that names a directory, which a list may have that describes a compiler
-abbrev pub words_in : Language → (has_dirs : Bool) → List ℕ → Option (List (List ℕ))
-words_in language has_dirs line = if has_dirs && names_dir line then Some [] else option_map (words_for language) (definition_in line)
+-- the words of a line: none of one that names a directory, which a list may have that describes a compiler, as one that has an answer
+abbrev pub words_in : Language → (is_compiler : Bool) → List ℕ → Option (List (List ℕ))
+words_in language is_compiler line =
+    if is_compiler && names_dir line then Some []
+    else if is_compiler && begins_answer line then option_map (answer_words language) (answer_in line)
+    else option_map (words_for language) (definition_in line)
 
 -- the words before those of what follows
 abbrev pub with_words : List (List ℕ) → Result (List (List ℕ)) ℕ → Result (List (List ℕ)) ℕ
@@ -101,8 +105,8 @@ words_from words_of line (last ∷ []) = last_words words_of line last
 words_from words_of line (l ∷ next ∷ ls) = line_words line (words_of (without_return l)) (words_from words_of (line + 1) (next ∷ ls))
 
 -- the words of a list, in order, or the number of its first line that it may not have
-abbrev pub defined_words : Language → (has_dirs : Bool) → List ℕ → Result (List (List ℕ)) ℕ
-defined_words language has_dirs text = words_from (words_in language has_dirs) 1 (slice_split (λ b. b == line_feed) text)
+abbrev pub defined_words : Language → (is_compiler : Bool) → List ℕ → Result (List (List ℕ)) ℕ
+defined_words language is_compiler text = words_from (words_in language is_compiler) 1 (slice_split (λ b. b == line_feed) text)
 
 -- the words of a line come after others, if it may be in the list
 abbrev pub IsTaken : (words : Option (List (List ℕ))) → (old : List (List ℕ)) → (is_taken : Bool) → (new : List (List ℕ)) → Type 0

@@ -16,6 +16,7 @@ pub mod MarkLists
 pub mod Places
 pub mod PpTexts
 pub mod ProjectLists
+pub mod Questions
 pub mod Reports
 pub mod Steps
 pub mod Texts

@@ -6,14 +6,14 @@ use Rattle.inc_text.specs.declared.languages.Language.{Language}
 use Rattle.inc_inputs.specs.Defines.{defined_words}
 use Rattle.inc_inputs.specs.Inputs.{Gives}
 use Rattle.inc_inputs.specs.ProjectLists.{list_of}
-use Rattle.inc_inputs.specs.Reports.{IsListReport, Report}
+use Rattle.inc_inputs.specs.Reports.{IsReportBy, Report, definitions_report}
 use Rattle.inc_inputs.specs.Steps.{Step, comes_to, judged, reads, then}
 use Rattle.inc_inputs.specs.Texts.{marks_of}
 
--- the words of the text of a list of this name, which may name directories, or where it is malformed
-abbrev pub AreWords : Language → (has_dirs : Bool) → (name text : List ℕ) → Result (List (List ℕ)) Report → Type 0
-AreWords language has_dirs name text (Ok words) = defined_words language has_dirs text ≡ Ok words
-AreWords language has_dirs name text (Err r) = IsListReport (λ line. defined_words language has_dirs text ≡ Err line) name r
+-- the words of the text of a list of this name, which may describe a compiler, or where it is malformed
+abbrev pub AreWords : Language → (is_compiler : Bool) → (name text : List ℕ) → Result (List (List ℕ)) Report → Type 0
+AreWords language is_compiler name text (Ok words) = defined_words language is_compiler text ≡ Ok words
+AreWords language is_compiler name text (Err r) = IsReportBy (definitions_report is_compiler) (λ line. defined_words language is_compiler text ≡ Err line) name r
 
 -- a list of definitions that was read: its text, and its words
 pub record Defined : Type 0 where
@@ -21,11 +21,11 @@ pub record Defined : Type 0 where
   pub words : List (List ℕ)
 
 -- a list that is read; an empty one where none is named
-abbrev pub defined_by : {S : Type 0} → Gives S → Language → (has_dirs : Bool) → Option (List ℕ) → Step S Defined
-defined_by gives language has_dirs None = comes_to (Ok (record { text = []; words = [] }))
-defined_by gives language has_dirs (Some name) =
+abbrev pub defined_by : {S : Type 0} → Gives S → Language → (is_compiler : Bool) → Option (List ℕ) → Step S Defined
+defined_by gives language is_compiler None = comes_to (Ok (record { text = []; words = [] }))
+defined_by gives language is_compiler (Some name) =
     then (reads gives name) (λ text.
-    then (judged (AreWords language has_dirs name text)) (λ words.
+    then (judged (AreWords language is_compiler name text)) (λ words.
     comes_to (Ok (record { text = text; words = words }))))
 
 -- what a preprocessing rests on

@@ -1,5 +1,5 @@
 -- What the program reports of a failure: a line on standard error, and the exit status.
-use Rattle.std.specs.Prelude.{◌≡◌, ℕ, ◌+◌, ◌/◌, ◌%◌, ◌==◌, ◌&&◌, not, List, [], ◌∷◌, ◌++◌, if◌then◌else◌, slice_index_or, codes, decimal, flat_map, nat_lt}
+use Rattle.std.specs.Prelude.{◌≡◌, ℕ, ◌+◌, ◌/◌, ◌%◌, ◌==◌, ◌&&◌, not, Bool, List, [], ◌∷◌, ◌++◌, if◌then◌else◌, slice_index_or, codes, decimal, flat_map, nat_lt}
 use Rattle.inc_lookup.specs.declared.projects.ProjectFault.{ProjectFault}
 use Rattle.inc_lookup.specs.declared.projects.ProjectFault.TheVariants as project
 use Rattle.inc_text.specs.declared.devices.ReadFault.{ReadFault}
@@ -56,6 +56,10 @@ same_path path = about_path (codes "same path twice: ") path 4
 -- at a line of the list of this path
 abbrev pub malformed_list : (at : List ℕ) → Report
 malformed_list at = about_path (codes "malformed list: line ") at 4
+
+-- at a line of what describes a compiler, in the file of this path
+abbrev pub malformed_compiler : (at : List ℕ) → Report
+malformed_compiler at = about_path (codes "malformed compiler: line ") at 4
 
 abbrev pub too_many_files : Report
 too_many_files = record { message = codes "too many files"; status = 4 }
@@ -143,6 +147,7 @@ report_of failure.TooManyFiles = too_many_files
 report_of (failure.BadPath path) = bad_path path.items
 report_of (failure.SamePath path) = same_path path.items
 report_of (failure.MalformedList at) = malformed_list at.items
+report_of (failure.MalformedCompiler at) = malformed_compiler at.items
 report_of failure.InputTwice = input_twice
 report_of failure.TwoForms = two_forms
 report_of failure.FormatOfFiles = format_of_files
@@ -181,10 +186,22 @@ abbrev pub list_report : CertFault → (path : List ℕ) → Report
 list_report (list.Malformed line) path = malformed_list (decimal line ++ codes " of " ++ path)
 list_report list.NoMemory path = out_of_memory
 
+-- the same of what describes a compiler
+abbrev pub compiler_report : CertFault → (path : List ℕ) → Report
+compiler_report (list.Malformed line) path = malformed_compiler (decimal line ++ codes " of " ++ path)
+compiler_report list.NoMemory path = out_of_memory
+
+-- the same of a list of definitions, which may describe a compiler
+abbrev pub definitions_report : (is_compiler : Bool) → CertFault → (path : List ℕ) → Report
+definitions_report is_compiler fault path = if is_compiler then compiler_report fault path else list_report fault path
+
 -- reported is that the list at this path is malformed, at a line of which this holds, or that memory ran out
+abbrev pub IsReportBy : (report : CertFault → List ℕ → Report) → (IsMalformedAt : ℕ → Type 0) → (path : List ℕ) → Report → Type 0
+IsReportBy report IsMalformedAt path r =
+    (fault : CertFault) × (r ≡ report fault path) × ((line : ℕ) → fault ≡ list.Malformed line → IsMalformedAt line)
+
 abbrev pub IsListReport : (IsMalformedAt : ℕ → Type 0) → (path : List ℕ) → Report → Type 0
-IsListReport IsMalformedAt path r =
-    (fault : CertFault) × (r ≡ list_report fault path) × ((line : ℕ) → fault ≡ list.Malformed line → IsMalformedAt line)
+IsListReport IsMalformedAt path r = IsReportBy list_report IsMalformedAt path r
 
 -- what is reported of paths and directories that make no project, the paths first; of two equal paths the second
 abbrev pub project_report : ProjectFault → (written : List (List ℕ)) → Report

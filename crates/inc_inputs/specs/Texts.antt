@@ -1,11 +1,13 @@
 -- Which texts are read for a question about a project, in which order, and what they come to.
 use Rattle.std.specs.Prelude.{◌≡◌, ◌++◌, ℕ, Bool, true, false, List, [], Option, Some, None, Result, Ok, Err, bytes_eq, codes, count_by, nat_lt}
 use Rattle.std.specs.Option.{option_map_or}
+use Rattle.inc_lookup.specs.IncludePath.{NamedPath}
 use Rattle.inc_lookup.specs.Projects.{Layout, project_of}
 use Rattle.inc_lookup.specs.declared.projects.ProjectFault.{ProjectFault}
 use Rattle.inc_graph.specs.Marks.{Cost, Mark}
 use Rattle.inc_check.specs.Texts.{CostsFormat, IsCostsText, IsMalformed, whole_lines}
 use Rattle.inc_args.specs.Meaning.{Limits, Question}
+use Rattle.inc_inputs.specs.IncludePath.{dir_names}
 use Rattle.inc_inputs.specs.Inputs.{Gives}
 use Rattle.inc_inputs.specs.MarkLists.{listed_marks}
 use Rattle.inc_inputs.specs.ProjectLists.{list_of}
@@ -79,6 +81,6 @@ abbrev pub layout_or : (written : List (List ℕ)) → Result Layout ProjectFaul
 layout_or written (Ok layout) = Ok layout
 layout_or written (Err fault) = Err (project_report fault written)
 
--- the project of files with these paths, or why there is none
-abbrev pub listed_layout : (paths dirs : List (List ℕ)) → Result Layout Report
-listed_layout paths dirs = layout_or (paths ++ dirs) (project_of paths dirs)
+-- the project of files with these paths and of this include path, or why there is none
+abbrev pub listed_layout : (paths : List (List ℕ)) → NamedPath → Result Layout Report
+listed_layout paths path = layout_or (paths ++ dir_names path.dirs) (project_of paths path.quoted (dir_names path.dirs))

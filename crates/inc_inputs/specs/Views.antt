@@ -3,13 +3,14 @@ use Rattle.std.specs.Prelude.{ℕ, Bool, List, Option, Result, Ok, Err, map, opt
 use Rattle.std.specs.Borrow.{Bor}
 use Rattle.std.specs.Global.{Vec}
 use Rattle.inc_graph.specs.Marks.{Mark}
-use Rattle.inc_lookup.specs.Projects.{Layout}
+use Rattle.inc_lookup.specs.Projects.{Layout, SearchPath}
 use Rattle.inc_inputs.specs.BuildNotes as notes
 use Rattle.inc_inputs.specs.BuildProjects.{Found, macro_word}
 use Rattle.inc_inputs.specs.BuildProjects as builds
 use Rattle.inc_inputs.specs.Ends as ends
 use Rattle.inc_inputs.specs.Places as places
 use Rattle.inc_inputs.specs.PpTexts as pp
+use Rattle.inc_inputs.specs.Questions as questions
 use Rattle.inc_inputs.specs.Reports.{Report, report_of}
 use Rattle.inc_inputs.specs.Texts as texts
 use Rattle.serde_json.specs.View.{view}
@@ -30,6 +31,7 @@ use Rattle.inc_inputs.specs.declared.failures.Failure.{Failure}
 use Rattle.inc_inputs.specs.declared.places.Places.{Places}
 use Rattle.inc_inputs.specs.declared.pp_texts.Defined.{Defined}
 use Rattle.inc_inputs.specs.declared.pp_texts.PpTexts.{PpTexts}
+use Rattle.inc_inputs.specs.declared.questions.Answered.{Answered}
 use Rattle.inc_inputs.specs.declared.texts.Texts.{Texts}
 
 -- the value as `f` shows it, or the report of a failure
@@ -103,7 +105,7 @@ abbrev pub seen_chosen : Result Choice Failure → Result builds.Chosen Report
 seen_chosen result = seen chosen_in result
 
 abbrev pub dirs_in : Dirs → builds.Dirs
-dirs_in d = record { dirs = map (λ d. d.items) d.dirs.items; system = map (λ d. d.items) d.system.items; last = map (λ d. d.items) d.last.items }
+dirs_in d = record { dirs = map (λ d. d.items) d.dirs.items; quoted = map (λ d. d.items) d.quoted.items; system = map (λ d. d.items) d.system.items; last = map (λ d. d.items) d.last.items }
 
 -- whether something is refused
 abbrev pub seen_unit : {A : Type 0} → Result A Failure → Result (Unit {0}) Report
@@ -119,6 +121,7 @@ abbrev pub project_in : BuildProject → Found
 project_in b = record {
   list = b.list.items;
   dirs = (dirs_in b.dirs).dirs;
+  quoted = (dirs_in b.dirs).quoted;
   system = (dirs_in b.dirs).system;
   last = (dirs_in b.dirs).last;
   sources = map (λ s. s.items) b.sources.items;
@@ -140,12 +143,19 @@ seen_path result = seen (λ path. path.now) result
 abbrev pub seen_paths : Result (Vec (Bor (List ℕ))) Failure → Result (List (List ℕ)) Report
 seen_paths result = seen (λ paths. map (λ p. p.now) paths.items) result
 
--- the directories of include paths
-abbrev pub seen_include_paths : Result (Vec (List (List ℕ))) Failure → Result (List (List (List ℕ))) Report
+-- include paths
+abbrev pub seen_search : Result SearchPath Failure → Result SearchPath Report
+seen_search result = seen (λ path. path) result
+
+abbrev pub seen_include_paths : Result (Vec SearchPath) Failure → Result (List SearchPath) Report
 seen_include_paths result = seen (λ paths. paths.items) result
 
 abbrev pub seen_layout : Result Layout Failure → Result Layout Report
 seen_layout result = seen (λ layout. layout) result
+
+-- an answer that a list has
+abbrev pub answered_in : Answered → questions.Answered
+answered_in a = record { question = a.question.now; operand = a.operand.now; number = a.number.now }
 
 abbrev pub defined_in : Defined → pp.Defined
 defined_in d = record { text = d.text.items; words = map (λ w. w.items) d.words.items }

@@ -17,6 +17,7 @@ use std::alloc::{AllocError, Global};
 #[derive(Drop)]
 pub struct Dirs {
     pub(crate) dirs: Vec<Vec<u8>>,
+    pub(crate) quoted: Vec<Vec<u8>>,
     pub(crate) system: Vec<Vec<u8>>,
     pub(crate) last: Vec<Vec<u8>>,
 }
@@ -31,9 +32,15 @@ pub(crate) fn all_dirs(
     ensures { IfOk result (λ dirs. dirs_in dirs ≡ spec.all_dirs (ground_in ground.now) (map seen_row rows.now) (seen_files files.now)) }
 {
     let dirs = dirs_and(alloc, ground, Kind::Searched, rows, &files.dirs)?;
+    let quoted = dirs_and(alloc, ground, Kind::Quoted, rows, &files.quoted)?;
     let system = dirs_and(alloc, ground, Kind::System, rows, &files.system)?;
     let last = dirs_and(alloc, ground, Kind::Last, rows, &files.last)?;
-    Ok(Dirs { dirs, system, last })
+    Ok(Dirs {
+        dirs,
+        quoted,
+        system,
+        last,
+    })
 }
 
 /// Those of the include paths with these numbers.

@@ -89,6 +89,7 @@ impl Empty {
         ensures known { OnOk result (self.new.known.keys ≡ spec.known_with self.old.known.keys (dirs_in dirs.now)) }
     {
         self.add_all(alloc, found, b"-I", &dirs.dirs)?;
+        self.add_all(alloc, found, b"-iquote", &dirs.quoted)?;
         self.add_all(alloc, found, b"-isystem", &dirs.system)?;
         self.add_all(alloc, found, b"-idirafter", &dirs.last)?;
         Ok(())

@@ -175,8 +175,7 @@ fn row_failure(alloc: Global, ground: &Ground<'_>, entry: usize, row: &Row) -> F
     ensures { report_of result ≢ out_of_memory →
         report_of result ≡ spec.row_report (ground_in ground.now) entry (seen_row row.now) }
 {
-    let value = row_value(ground, row);
-    unsupported(alloc, ground.name, entry, option_front(row.kind), value)
+    unsupported(alloc, ground.name, entry, option_front(row.kind), &row.name)
 }
 
 /// Whether no search has a place for rows of a kind.
@@ -184,20 +183,9 @@ fn is_unsupported(kind: Kind) -> bool
     ensures { result ≡ spec.is_unsupported kind }
 {
     match kind {
-        Kind::Quoted => true,
         Kind::Macros => true,
         Kind::Included => true,
         _ => false,
-    }
-}
-
-/// The value of such a row in reports.
-fn row_value<'r>(ground: &Ground<'_>, row: &'r Row) -> &'r [u8]
-    ensures { result.now ≡ spec.row_value (ground_in ground.now) (seen_row row.now) }
-{
-    match row.kind {
-        Kind::Quoted => ground.forms().of(&row.path),
-        _ => &row.name,
     }
 }
 

@@ -179,7 +179,7 @@ fn stays(undefined: &IndexSet<Key, SeededState>, word: &[u8]) -> bool
 }
 
 /// The name that a word defines.
-fn name_in(word: &[u8]) -> &[u8]
+pub(crate) fn name_in(word: &[u8]) -> &[u8]
     ensures { result.now ≡ spec.name_in word.now }
 {
     &word[..name_len(word)]

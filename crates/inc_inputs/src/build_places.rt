@@ -2,16 +2,16 @@
 ghost use Rattle.std.specs.Prelude.{◌≡◌, ◌≢◌, ◌<◌, [], Some, Err, IfOk, OnOk, length, map, replicate};
 ghost use Rattle.inc_inputs.specs.BuildPlaces as spec;
 ghost use Rattle.inc_inputs.specs.BuildProjects.{dir_words};
-ghost use Rattle.inc_inputs.specs.IncludePath.{dir_names, include_path};
+ghost use Rattle.inc_inputs.specs.IncludePath.{include_path};
 ghost use Rattle.inc_inputs.specs.Reports.{out_of_memory};
-ghost use Rattle.inc_inputs.specs.Views.{dirs_in, seen_include_paths, seen_list, source_in};
+ghost use Rattle.inc_inputs.specs.Views.{dirs_in, seen_include_paths, seen_search, source_in};
 
 use crate::build_dirs::Dirs;
 use crate::build_sources::BuildSource;
 use crate::ends::file_at;
 use crate::failures::{Failure, project_failure};
 use crate::projects::names_of;
-use inc_lookup::{IncludePath, Project, include_dirs};
+use inc_lookup::{IncludePath, NamedPath, Project, named_path};
 use std::alloc::{AllocError, Global};
 
 /// Include paths by their directories, as a project has its own by the same directories.
@@ -33,24 +33,23 @@ pub fn other_paths(alloc: Global, seed: u64, others: &[Dirs]) -> Result<Vec<Incl
 
 /// One of them.
 fn path_in(alloc: Global, seed: u64, dirs: &Dirs) -> Result<IncludePath, Failure>
-    ensures { seen_list result ≢ Err out_of_memory → seen_list result ≡ spec.path_in (dirs_in dirs.now) }
+    ensures { seen_search result ≢ Err out_of_memory → seen_search result ≡ spec.path_in (dirs_in dirs.now) }
 {
     match searched(alloc, seed, dirs) {
-        Ok(names) => path_by(alloc, seed, &names),
+        Ok(path) => path_by(alloc, seed, &path),
         Err(_) => Err(Failure::NoMemory),
     }
 }
 
-/// The directories in the order in which they are searched, each once.
-fn searched<'d>(alloc: Global, seed: u64, dirs: &'d Dirs) -> Result<Vec<&'d [u8]>, AllocError>
-    ensures { IfOk result (λ names. map (λ n. n.now) names.items
-        ≡ dir_names (include_path (dir_words (dirs_in dirs.entry.now)) [])) }
+/// The directories in the order in which they are searched.
+fn searched<'d>(alloc: Global, seed: u64, dirs: &'d Dirs) -> Result<NamedPath<'d>, AllocError>
+    ensures { IfOk result (λ path. path ≡ include_path (dir_words (dirs_in dirs.entry.now)) []) }
 {
+    let quoted = slices_of(alloc, &dirs.quoted)?;
     let own = slices_of(alloc, &dirs.dirs)?;
     let mut system = slices_of(alloc, &dirs.system)?;
     system.extend_from_slice(&slices_of(alloc, &dirs.last)?)?;
-    let searched = include_dirs(alloc, seed, &own, &system)?;
-    names_of(alloc, &searched)
+    named_path(alloc, seed, &quoted, &own, &system)
 }
 
 /// Directories as they are written.
@@ -65,12 +64,13 @@ fn slices_of(alloc: Global, dirs: &[Vec<u8>]) -> Result<Vec<&[u8]>, AllocError>
 }
 
 /// The include path of directories.
-fn path_by(alloc: Global, seed: u64, names: &[&[u8]]) -> Result<IncludePath, Failure>
-    ensures { seen_list result ≢ Err out_of_memory → seen_list result ≡ spec.path_by (map (λ n. n.now) names.now) }
+fn path_by(alloc: Global, seed: u64, path: &NamedPath<'_>) -> Result<IncludePath, Failure>
+    ensures { seen_search result ≢ Err out_of_memory → seen_search result ≡ spec.path_by path.now }
 {
-    match IncludePath::new(alloc, seed, names) {
+    let names = names_of(alloc, &path.dirs)?;
+    match IncludePath::new(alloc, seed, path.quoted, &names) {
         Ok(path) => Ok(path),
-        Err(fault) => Err(project_failure(alloc, fault, &[], names)?),
+        Err(fault) => Err(project_failure(alloc, fault, &[], &names)?),
     }
 }
 

@@ -491,6 +491,7 @@ impl BuildProject {
             is_null: true,
             roots: Vec::new(alloc),
             dirs: texts_of(alloc, &self.dirs.dirs)?,
+            quoted: texts_of(alloc, &self.dirs.quoted)?,
             system: texts_of(alloc, &self.dirs.system)?,
             last: texts_of(alloc, &self.dirs.last)?,
         })

@@ -4,9 +4,10 @@ ghost use Rattle.std.specs.List.{list_any, prefix_len};
 ghost use Rattle.inc_check.specs.declared.read_texts.CertFault.TheVariants as fault;
 ghost use Rattle.inc_inputs.specs.Defines.{name_len, parameters_len, head_len, HasHead, begins_body, is_head, begins_definition, definition_in, word_of, words_for, words_in, defined_words, described_dirs, dir_in, names_dir, IsTaken};
 ghost use Rattle.inc_macro.specs.Tables.{table_of};
-ghost use Rattle.inc_text.specs.Ascii.{close_parenthesis, equals, line_feed, open_parenthesis};
+ghost use Rattle.inc_text.specs.Ascii.{equals, line_feed, open_parenthesis};
 
 use crate::file_lists::{PathEnd, first_end, list_paths, without_return};
+use crate::questions::{begins_answer, close_len, push_answer};
 use inc_check::CertFault;
 use inc_macro::Macros;
 use inc_text::Language;
@@ -20,19 +21,20 @@ const DIR_START: &[u8] = b"dir ";
 
 /// The words that stand for the definitions of a list, in order, each as one of the command line: `NAME=BODY` or `NAME(PARAMETERS)=BODY`.
 /// Those of names that are predefined in the language are left out, since these may not be defined. Before an LF a CR is dropped, and after the last line the
-/// LF is optional. A list that describes a compiler may have lines `dir PATH`, which define nothing.
+/// LF is optional. A list that describes a compiler may have lines `dir PATH`, which define nothing, and lines `has NAME(ARG) NUMBER`,
+/// which stand for the words of answers.
 pub fn read_defines(
     alloc: Global,
     language: Language,
-    has_dirs: bool,
+    is_compiler: bool,
     text: &[u8],
 ) -> Result<Vec<Vec<u8>>, CertFault>
-    ensures words { IfOk result (λ words. defined_words language has_dirs text.now ≡ Ok (map (λ w. w.items) words.items)) }
-    ensures fault { IfErr result (λ f. (line : ℕ) → f ≡ fault.Malformed line → defined_words language has_dirs text.now ≡ Err line) }
+    ensures words { IfOk result (λ words. defined_words language is_compiler text.now ≡ Ok (map (λ w. w.items) words.items)) }
+    ensures fault { IfErr result (λ f. (line : ℕ) → f ≡ fault.Malformed line → defined_words language is_compiler text.now ≡ Err line) }
 {
     // A table without definitions has the predefined names alone.
     let predefined = Macros::new(alloc, 0, language);
-    defined_words(alloc, &predefined, has_dirs, text)
+    defined_words(alloc, &predefined, is_compiler, text)
 }
 
 /// The directories that a list names, in order.
@@ -79,19 +81,19 @@ fn names_dir(line: &[u8]) -> bool
 fn defined_words(
     alloc: Global,
     predefined: &Macros,
-    has_dirs: bool,
+    is_compiler: bool,
     text: &[u8],
 ) -> Result<Vec<Vec<u8>>, CertFault>
-    ensures words { IfOk result (λ words. defined_words (table_of predefined.now).language has_dirs text.now ≡ Ok (map (λ w. w.items) words.items)) }
+    ensures words { IfOk result (λ words. defined_words (table_of predefined.now).language is_compiler text.now ≡ Ok (map (λ w. w.items) words.items)) }
     ensures fault { IfErr result (λ f. (line : ℕ) → f ≡ fault.Malformed line →
-        defined_words (table_of predefined.now).language has_dirs text.now ≡ Err line) }
+        defined_words (table_of predefined.now).language is_compiler text.now ≡ Err line) }
 {
     let mut words = Vec::new(alloc);
     let mut line = 1;
     let mut at = 0;
     while let Some(length) = first_end(&text[at..], b'\n') {
         let piece = without_return(&text[at..at + length]);
-        if !push_line(alloc, &mut words, predefined, has_dirs, piece)? {
+        if !push_line(alloc, &mut words, predefined, is_compiler, piece)? {
             return Err(CertFault::Malformed { line });
         }
         at += length + 1;
@@ -100,7 +102,7 @@ fn defined_words(
     if at == text.len() {
         return Ok(words);
     }
-    if !push_line(alloc, &mut words, predefined, has_dirs, &text[at..])? {
+    if !push_line(alloc, &mut words, predefined, is_compiler, &text[at..])? {
         return Err(CertFault::Malformed { line });
     }
     Ok(words)
@@ -111,14 +113,17 @@ fn push_line(
     alloc: Global,
     words: &mut Vec<Vec<u8>>,
     predefined: &Macros,
-    has_dirs: bool,
+    is_compiler: bool,
     line: &[u8],
 ) -> Result<bool, AllocError>
-    ensures { IfOk result (λ is_taken. IsTaken (words_in (table_of predefined.now).language has_dirs line.now)
+    ensures { IfOk result (λ is_taken. IsTaken (words_in (table_of predefined.now).language is_compiler line.now)
         (map (λ w. w.items) words.old.items) is_taken (map (λ w. w.items) words.new.items)) }
 {
-    if has_dirs && names_dir(line) {
+    if is_compiler && names_dir(line) {
         return Ok(true);
+    }
+    if is_compiler && begins_answer(line) {
+        return push_answer(alloc, words, predefined.language(), line);
     }
     let Some(definition) = definition_in(line) else {
         return Ok(false);
@@ -179,7 +184,7 @@ fn parameters_len(text: &[u8]) -> usize
     ensures within { result ≤ length text.now + 1 }
 {
     if begins_parameters(text) {
-        bracket_at(text) + 1
+        close_len(text) + 1
     } else {
         0
     }
@@ -190,14 +195,6 @@ fn begins_parameters(text: &[u8]) -> bool
     ensures { result ≡ (slice_index text.now 0 == open_parenthesis) }
 {
     matches!(text, [b'(', ..])
-}
-
-/// How many bytes are before the first `)`.
-fn bracket_at(text: &[u8]) -> usize
-    ensures is { result ≡ prefix_len (λ b. not (b == close_parenthesis)) text.now }
-    ensures within { result ≤ length text.now }
-{
-    text.iter().take_while(|b| **b != b')').count()
 }
 
 /// Whether so many bytes are a name with its parameters, and a body or nothing follows. The name alone has `own` bytes.

@@ -1,6 +1,6 @@
 //! Why the program gives no answer, and what it reports of that.
 ghost use Rattle.std.specs.Prelude.{◌≡◌, ◌≢◌, ◌<◌, ◌++◌, [], IfOk, OnOk, map, slice_index_or, codes, decimal};
-ghost use Rattle.inc_inputs.specs.Reports.{about_option, bad_glob, fits_none, hex_digit, hindrance_text, no_line, out_of_memory, report_of, read_report, list_report, project_report, several_headers, shown, shown_byte};
+ghost use Rattle.inc_inputs.specs.Reports.{about_option, bad_glob, fits_none, hex_digit, hindrance_text, no_line, out_of_memory, report_of, read_report, list_report, compiler_report, definitions_report, project_report, several_headers, shown, shown_byte};
 
 use inc_check::CertFault;
 use inc_lookup::ProjectFault;
@@ -53,6 +53,8 @@ pub enum Failure {
     SamePath(Vec<u8>),
     /// A list of directives or of costs is malformed, at this line and of this path: `N of PATH`.
     MalformedList(Vec<u8>),
+    /// The same of what describes a compiler.
+    MalformedCompiler(Vec<u8>),
     /// Two arguments ask for standard input.
     InputTwice,
     /// A file is to be written under the name `-`.
@@ -142,6 +144,32 @@ pub fn list_failure(alloc: Global, fault: CertFault, path: &[u8]) -> Result<Fail
 {
     Ok(match fault {
         CertFault::Malformed { line } => Failure::MalformedList(line_of(alloc, line, path)?),
+        CertFault::NoMemory => Failure::NoMemory,
+    })
+}
+
+/// The same of a list of definitions, which may describe a compiler.
+pub(crate) fn definitions_failure(
+    alloc: Global,
+    is_compiler: bool,
+    fault: CertFault,
+    path: &[u8],
+) -> Result<Failure, AllocError>
+    ensures { IfOk result (λ failure. report_of failure ≡ definitions_report is_compiler fault path.now) }
+{
+    if is_compiler {
+        compiler_failure(alloc, fault, path)
+    } else {
+        list_failure(alloc, fault, path)
+    }
+}
+
+/// The same of what describes a compiler.
+fn compiler_failure(alloc: Global, fault: CertFault, path: &[u8]) -> Result<Failure, AllocError>
+    ensures { IfOk result (λ failure. report_of failure ≡ compiler_report fault path.now) }
+{
+    Ok(match fault {
+        CertFault::Malformed { line } => Failure::MalformedCompiler(line_of(alloc, line, path)?),
         CertFault::NoMemory => Failure::NoMemory,
     })
 }
@@ -330,6 +358,7 @@ impl Failure {
             Failure::BadPath(path) => (b"bad path: ", path),
             Failure::SamePath(path) => (b"same path twice: ", path),
             Failure::MalformedList(at) => (b"malformed list: line ", at),
+            Failure::MalformedCompiler(at) => (b"malformed compiler: line ", at),
             Failure::InputTwice => (b"standard input can be read only once", b""),
             Failure::NoFile => (b"'-' is no file to write", b""),
             Failure::OneFile => (b"--deps and --status name one file", b""),
@@ -381,6 +410,7 @@ impl Failure {
             | Failure::BadPath(_)
             | Failure::SamePath(_)
             | Failure::MalformedList(_)
+            | Failure::MalformedCompiler(_)
             | Failure::FitsNone(_)
             | Failure::SeveralHeaders(_)
             | Failure::NoSourceLeft => 4,

@@ -234,7 +234,7 @@ fn line_colon(word: &[u8]) -> Option<usize>
 }
 
 /// Whether a text is one digit or more, and nothing else.
-fn is_number(text: &[u8]) -> bool
+pub(crate) fn is_number(text: &[u8]) -> bool
     ensures { result ≡ is_number text.now }
 {
     let digits = digits_len(text);

@@ -7,7 +7,7 @@ ghost use Rattle.inc_inputs.specs.Steps.{Comes};
 ghost use Rattle.inc_inputs.specs.Views.{seen_defined, seen_pp_texts};
 
 use crate::defines::{described_dirs, read_defines};
-use crate::failures::{Failure, list_failure};
+use crate::failures::{Failure, definitions_failure};
 use crate::inputs::Inputs;
 use crate::project_lists::read_list;
 use crate::texts::{read_directives, read_text};
@@ -81,15 +81,15 @@ pub fn read_pp_texts_beside<I: Inputs>(
     })
 }
 
-/// A list of definitions, which may name directories, too; an empty one where none is named.
+/// A list of definitions, which may describe a compiler; an empty one where none is named.
 fn read_defined<I: Inputs>(
     alloc: Global,
     inputs: &mut I,
     language: Language,
-    has_dirs: bool,
+    is_compiler: bool,
     name: Option<&str>,
 ) -> Result<Defined, Failure>
-    ensures { Comes (defined_by I.gives language has_dirs (option_map (λ n. n.now) name.entry)) inputs.old (seen_defined result) inputs.new }
+    ensures { Comes (defined_by I.gives language is_compiler (option_map (λ n. n.now) name.entry)) inputs.old (seen_defined result) inputs.new }
 {
     let Some(name) = name else {
         return Ok(Defined {
@@ -98,8 +98,8 @@ fn read_defined<I: Inputs>(
         });
     };
     let text = read_text(alloc, inputs, name)?;
-    match read_defines(alloc, language, has_dirs, &text) {
+    match read_defines(alloc, language, is_compiler, &text) {
         Ok(words) => Ok(Defined { text, words }),
-        Err(fault) => Err(list_failure(alloc, fault, name.as_bytes())?),
+        Err(fault) => Err(definitions_failure(alloc, is_compiler, fault, name.as_bytes())?),
     }
 }

@@ -8,41 +8,41 @@ ghost use Rattle.inc_inputs.specs.Views.{seen_layout};
 
 use crate::failures::{Failure, project_failure};
 use inc_args::FileList;
-use inc_lookup::{NamedDir, Project, include_dirs};
+use inc_lookup::{NamedDir, NamedPath, Project, named_path};
 use std::alloc::{AllocError, Global};
 
-/// The project of files with these paths and of these search directories, with the seed of its table.
+/// The project of files with these paths and of this include path, with the seed of its table.
 pub fn listed_project<'a>(
     alloc: Global,
     seed: u64,
     paths: &'a [&'a [u8]],
-    dirs: &[NamedDir<'_>],
+    path: &NamedPath<'_>,
 ) -> Result<Project<'a>, Failure>
     ensures { seen_layout result ≢ Err out_of_memory →
-        seen_layout result ≡ listed_layout (map (λ p. p.now) paths.now) (dir_names dirs.now) }
+        seen_layout result ≡ listed_layout (map (λ p. p.now) paths.now) path.now }
 {
-    let dirs = names_of(alloc, dirs)?;
-    match Project::new(alloc, seed, paths, &dirs) {
+    let dirs = names_of(alloc, &path.dirs)?;
+    match Project::new(alloc, seed, paths, path.quoted, &dirs) {
         Ok(project) => Ok(project),
         Err(fault) => Err(project_failure(alloc, fault, paths, &dirs)?),
     }
 }
 
-/// The include path of a project, in the order in which it is searched, each directory once. The compiler's directories are searched after
-/// those of the words, but for the last ones.
+/// The include path of a project. The compiler's directories are searched after those of the words, but for the last ones.
 pub fn include_path<'a>(
     alloc: Global,
     seed: u64,
     files: &FileList<'a>,
     compiler: &[&'a [u8]],
-) -> Result<Vec<NamedDir<'a>>, AllocError>
-    ensures { IfOk result (λ dirs. dirs.items ≡ include_path (seen_files files.now) (map (λ d. d.now) compiler.now)) }
+) -> Result<NamedPath<'a>, AllocError>
+    ensures { IfOk result (λ path. path ≡ include_path (seen_files files.now) (map (λ d. d.now) compiler.now)) }
 {
+    let quoted = bytes_of(alloc, &files.quoted)?;
     let own = bytes_of(alloc, &files.dirs)?;
     let mut system = bytes_of(alloc, &files.system)?;
     system.extend_from_slice(compiler)?;
     system.extend_from_slice(&bytes_of(alloc, &files.last)?)?;
-    include_dirs(alloc, seed, &own, &system)
+    named_path(alloc, seed, &quoted, &own, &system)
 }
 
 /// Directories as they are written.

@@ -20,7 +20,7 @@ file_without path = record { path = path; bytes = [] }
 
 -- the listing whose files are empty
 pub bare_listing : Layout → Listing
-bare_listing layout = record { files = map file_without layout.paths; dirs = layout.dirs }
+bare_listing layout = record { files = map file_without layout.paths; search = layout.search }
 
 paths_without : (paths : List (List ℕ)) → paths_of (map file_without paths) ≡ paths
 unfolding file_without
@@ -46,7 +46,7 @@ bytes_by (f ∷ fs) (suc i) = bytes_by fs i
 pub laid_with : (layout : Layout) (listing : Listing) (file : ℕ) (bytes : List ℕ) → layout_of listing ≡ layout → layout_of (with_bytes listing file bytes) ≡ layout
 unfolding with_bytes file_with
 laid_with layout listing file bytes laid =
-    ap (λ (ps : List (List ℕ)). record { paths = ps; dirs = listing.dirs })
+    ap (λ (ps : List (List ℕ)). record { paths = ps; search = listing.search })
     (map-set_same (λ (f : File). f.path) listing.files file (file_with listing.files file bytes) (record { path = []; bytes = [] }) refl)
     ∙ laid
 

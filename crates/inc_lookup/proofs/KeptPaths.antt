@@ -7,7 +7,7 @@ use Rattle.std.proofs.lemmas.Iterator.Adapters.{position_from-zero}
 use Rattle.inc_lookup.specs.Paths.{normal_form}
 use Rattle.inc_lookup.specs.declared.projects.ProjectFault.{ProjectFault}
 use Rattle.inc_lookup.specs.declared.projects.ProjectFault.TheVariants.{BadPath}
-use Rattle.inc_lookup.specs.Projects.{Layout, is_bad_path, is_bad_file_path, is_no_file, bad_path, each_once, normal_forms, first_some, project_fault, project_of}
+use Rattle.inc_lookup.specs.Projects.{Layout, is_bad_path, is_bad_file_path, is_no_file, bad_path, normal_forms, first_some, project_fault, project_of, search_of}
 
 or_left : (a b : Bool) → (a || b) ≡ false → a ≡ false
 or_left true b e = cc
@@ -66,11 +66,11 @@ none_of : (o : Option ℕ) → option_map BadPath o ≡ None → o ≡ None
 none_of None e = refl
 none_of (Some i) e = cc
 
-pub paths_kept : (paths dirs : List (List ℕ)) (layout : Layout) → project_of paths dirs ≡ Ok layout →
+pub paths_kept : (paths : List (List ℕ)) (quoted : ℕ) (dirs : List (List ℕ)) (layout : Layout) → project_of paths quoted dirs ≡ Ok layout →
     (map normal_form paths ≡ map (λ path. Some path) layout.paths)
-    × ((forms : List (List ℕ)) × (map normal_form dirs ≡ map (λ dir. Some dir) forms) × (layout.dirs ≡ each_once forms))
-paths_kept paths dirs layout made =
-    let ok = is_ok (project_fault paths dirs) (record { paths = normal_forms paths; dirs = each_once (normal_forms dirs) }) layout made in
+    × ((forms : List (List ℕ)) × (map normal_form dirs ≡ map (λ dir. Some dir) forms) × (layout.search ≡ search_of quoted forms))
+paths_kept paths quoted dirs layout made =
+    let ok = is_ok (project_fault paths dirs) (record { paths = normal_forms paths; search = search_of quoted (normal_forms dirs) }) layout made in
     let good = none_of (bad_path paths dirs) (second_none _ (option_map BadPath (bad_path paths dirs)) _ ok.0) in
     let kept = files_kept 0 paths (map is_bad_path dirs) (sym (position_from-zero is_true (map is_bad_file_path paths ++ map is_bad_path dirs)) ∙ good) in
-    (kept.0 ∙ ap (λ (l : Layout). map (λ path. Some path) l.paths) ok.1, (normal_forms dirs, dirs_kept kept.1 dirs kept.2, sym (ap (λ (l : Layout). l.dirs) ok.1)))
+    (kept.0 ∙ ap (λ (l : Layout). map (λ path. Some path) l.paths) ok.1, (normal_forms dirs, dirs_kept kept.1 dirs kept.2, sym (ap (λ (l : Layout). l.search) ok.1)))

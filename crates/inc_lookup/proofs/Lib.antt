@@ -3,6 +3,7 @@ pub mod NormalLemmas
 pub mod CleanPaths
 mod ShortPaths
 pub mod ListingLemmas
+pub mod NamedPaths
 mod KeptPaths
 pub mod HeldLemmas
 pub mod GivenLemmas

@@ -2,10 +2,10 @@
 use Rattle.std.proofs.Common.{◌≡◌, Bor, ℕ, suc, ◌+◌, ◌<◌, ◌≤◌, Bool, true, false, ◌||◌, cond, List, [], ◌∷◌, ◌++◌, Option, Some, None, is_some, length, take, drop, get_or, refl, sym, ap, subst, ◌∙◌, arith}
 use Rattle.std.specs.Prelude.{◌==◌, fold, bytes_eq, not, nat_lt, is_none, option_map, if◌then◌else◌, map, position, Ok, Err}
 use Rattle.std.specs.Option.{option_map_or}
-use Rattle.std.specs.List.{All, cons_option, list_any, position_from, position_or_len}
+use Rattle.std.specs.List.{All, cons_option, list_any, position_from, position_or_len, take-map}
 use Rattle.std.proofs.lemmas.Bool.{or_from, or_right, false≢true, true≢false, le-ltb, false_from_ne_true}
-use Rattle.std.proofs.lemmas.List.{append-nil, append_assoc, take_more, take-append-drop, length-map, get_or_default, map-append, drop_more, length-take-le, map_more}
-use Rattle.std.proofs.lemmas.List.Elements.{All-push}
+use Rattle.std.proofs.lemmas.List.{append-nil, append_assoc, drop-map, take_more, take-append-drop, length-map, get_or_default, map-append, drop_more, length-take-le, map_more}
+use Rattle.std.proofs.lemmas.List.Elements.{All-append, All-drop, All-push, All-take}
 use Rattle.std.proofs.lemmas.List.Folds.{list_any_none, list_any_at}
 use Rattle.std.proofs.lemmas.Iterator.Adapters.{position_from-zero}
 use Rattle.memchr.specs.Find.{IsFirstByte, is_byte2}
@@ -14,7 +14,7 @@ use Rattle.inc_lookup.specs.Paths.{normal_form}
 use Rattle.inc_lookup.specs.Invariants.{IsNormal, IsGoodForm, AreNormalForms, IsKept, IsTabled, AreTabled}
 use Rattle.inc_lookup.specs.declared.projects.ProjectFault.{ProjectFault}
 use Rattle.inc_lookup.specs.declared.projects.ProjectFault.TheVariants.{TooManyFiles, BadPath, SamePath}
-use Rattle.inc_lookup.specs.Projects.{is_bad_path, is_bad_file_path, is_no_file, place_of, same_path_from, same_path, bad_path, each_once, with_path, normal_forms, first_some, project_fault, project_of}
+use Rattle.inc_lookup.specs.Projects.{is_bad_path, is_bad_file_path, is_no_file, place_of, same_path_from, same_path, bad_path, each_once, with_path, normal_forms, first_some, project_fault, project_of, search_of}
 use Rattle.inc_lookup.proofs.CleanPaths.{forms_clean}
 use Rattle.inc_lookup.proofs.ShortPaths.{forms_short}
 use Rattle.inc_lookup.proofs.NormalLemmas.{normal_form-normal, position-map}
@@ -243,18 +243,35 @@ abbrev first_fault : Bool → Option ℕ → Option (ℕ × ℕ) → Option Proj
 first_fault many bad same =
     first_some ((if many then Some TooManyFiles else None) ∷ option_map BadPath bad ∷ option_map (λ (p : ℕ × ℕ). SamePath p.0 p.1) same ∷ [])
 
-module _ (paths dirs : List (List ℕ)) where
-  refused : (fault : ProjectFault) → project_fault paths dirs ≡ Some fault → project_of paths dirs ≡ Err fault
-  refused fault e = ap (λ (o : Option ProjectFault). option_map_or Err o (Ok (record { paths = normal_forms paths; dirs = each_once (normal_forms dirs) }))) e
+-- and of the parts of a list, each of them once
+pub parts_all : {X : Type 0} (P : List ℕ → Type 0) (f : X → List ℕ) (k : ℕ) (xs front back : List X) (none kept all : List (List ℕ))
+    → front ≡ take k xs → back ≡ drop k xs → none ≡ [] → kept ≡ none ++ each_once (map f front) → all ≡ kept ++ each_once (map f back)
+    → All P (map f xs) → All P all
+parts_all P f k xs front back none kept all front_is back_is none_is kept_is all_is each =
+    rw (all_is, kept_is, none_is, front_is, back_is)
+    (All-append P (each_once (map f (take k xs))) (each_once (map f (drop k xs)))
+    (once_all P (map f (take k xs)) (subst (All P) (take-map f k xs) (All-take P k (map f xs) each)))
+    (once_all P (map f (drop k xs)) (subst (All P) (drop-map f k xs) (All-drop P k (map f xs) each))))
+
+-- and of those of the directories of an include path
+pub search_all : (P : List ℕ → Type 0) (quoted : ℕ) (dirs : List (List ℕ)) → All P dirs → All P (search_of quoted dirs).dirs
+search_all P quoted dirs all =
+    All-append P (each_once (take quoted dirs)) (each_once (drop quoted dirs))
+    (once_all P (take quoted dirs) (All-take P quoted dirs all))
+    (once_all P (drop quoted dirs) (All-drop P quoted dirs all))
+
+module _ (paths : List (List ℕ)) (quoted : ℕ) (dirs : List (List ℕ)) where
+  refused : (fault : ProjectFault) → project_fault paths dirs ≡ Some fault → project_of paths quoted dirs ≡ Err fault
+  refused fault e = ap (λ (o : Option ProjectFault). option_map_or Err o (Ok (record { paths = normal_forms paths; search = search_of quoted (normal_forms dirs) }))) e
 
   few_files : length paths ≤ MOST_FILES → project_fault paths dirs ≡ first_fault false (bad_path paths dirs) (same_path paths)
   few_files few = ap (λ (b : Bool). first_fault b (bad_path paths dirs) (same_path paths)) (le-ltb _ _ few)
 
-  pub fault-file : (i : ℕ) → length paths ≤ MOST_FILES → position is_bad_file_path paths ≡ Some i → project_of paths dirs ≡ Err (BadPath i)
+  pub fault-file : (i : ℕ) → length paths ≤ MOST_FILES → position is_bad_file_path paths ≡ Some i → project_of paths quoted dirs ≡ Err (BadPath i)
   fault-file i few bad =
       refused (BadPath i) (few_files few ∙ ap (λ (o : Option ℕ). first_fault false o (same_path paths)) (bad_file paths dirs i bad))
 
-  pub fault-dir : (i : ℕ) → length paths ≤ MOST_FILES → position is_bad_file_path paths ≡ None → position is_bad_path dirs ≡ Some i → project_of paths dirs ≡ Err (BadPath (length paths + i))
+  pub fault-dir : (i : ℕ) → length paths ≤ MOST_FILES → position is_bad_file_path paths ≡ None → position is_bad_path dirs ≡ Some i → project_of paths quoted dirs ≡ Err (BadPath (length paths + i))
   fault-dir i few good bad =
       let at = good_files paths dirs good ∙ ap (option_map (λ (k : ℕ). length paths + k)) bad in
       refused (BadPath (length paths + i)) (few_files few ∙ ap (λ (o : Option ℕ). first_fault false o (same_path paths)) at)
@@ -267,30 +284,30 @@ module _ (paths dirs : List (List ℕ)) where
     same_path-forms : same_path paths ≡ same_path_from [] forms
     same_path-forms = ap (same_path_from []) (normal_forms-are paths forms file_forms.are)
 
-    pub fault-same : (p : ℕ × ℕ) → same_path_from [] forms ≡ Some p → project_of paths dirs ≡ Err (SamePath p.0 p.1)
+    pub fault-same : (p : ℕ × ℕ) → same_path_from [] forms ≡ Some p → project_of paths quoted dirs ≡ Err (SamePath p.0 p.1)
     fault-same p same =
         refused (SamePath p.0 p.1) (good_paths ∙ ap (λ (o : Option (ℕ × ℕ)). first_fault false None o) (same_path-forms ∙ same))
 
-    pub project_made : same_path_from [] forms ≡ None → project_of paths dirs ≡ Ok (record { paths = forms; dirs = each_once dir_forms })
+    pub project_made : same_path_from [] forms ≡ None → project_of paths quoted dirs ≡ Ok (record { paths = forms; search = search_of quoted dir_forms })
     project_made differ =
         let none : project_fault paths dirs ≡ None = good_paths ∙ ap (λ (o : Option (ℕ × ℕ)). first_fault false None o) (same_path-forms ∙ differ) in
-        ap (λ (o : Option ProjectFault). option_map_or Err o (Ok (record { paths = normal_forms paths; dirs = each_once (normal_forms dirs) }))) none
-        ∙ ap (λ (l : List (List ℕ)). Ok (record { paths = l; dirs = each_once (normal_forms dirs) })) (normal_forms-are paths forms file_forms.are)
-        ∙ ap (λ (l : List (List ℕ)). Ok (record { paths = forms; dirs = each_once l })) (normal_forms-are dirs dir_forms forms_of_dirs.are)
+        ap (λ (o : Option ProjectFault). option_map_or Err o (Ok (record { paths = normal_forms paths; search = search_of quoted (normal_forms dirs) }))) none
+        ∙ ap (λ (l : List (List ℕ)). Ok (record { paths = l; search = search_of quoted (normal_forms dirs) })) (normal_forms-are paths forms file_forms.are)
+        ∙ ap (λ (l : List (List ℕ)). Ok (record { paths = forms; search = search_of quoted l })) (normal_forms-are dirs dir_forms forms_of_dirs.are)
 
     -- as many normal forms as paths
     same_count : length forms ≡ length paths
     same_count = sym (length-map forms (λ (f : List ℕ). Some f)) ∙ ap length (sym file_forms.are) ∙ length-map paths normal_form
 
     -- what a project keeps
-    pub is_kept : (longest : ℕ) → All (λ (path : List ℕ). length path ≤ longest) forms → same_path_from [] forms ≡ None → IsKept longest forms (each_once dir_forms)
+    pub is_kept : (longest : ℕ) → All (λ (path : List ℕ). length path ≤ longest) forms → same_path_from [] forms ≡ None → IsKept longest forms (search_of quoted dir_forms).dirs
     is_kept longest short once =
         let good = sym (is_some-position is_bad_file_path paths) ∙ ap is_some file_forms.good in record {
           few = omega (arith, same_count);
           short = short;
           paths_short = forms_short paths forms good file_forms.are;
           paths_normal = file_forms.normal;
-          dirs_normal = once_all IsNormal dir_forms forms_of_dirs.normal;
+          dirs_normal = search_all IsNormal quoted dir_forms forms_of_dirs.normal;
           once = once;
           paths_clean = forms_clean paths forms good file_forms.are;
         }

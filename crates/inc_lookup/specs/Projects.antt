@@ -1,6 +1,6 @@
 -- The files and directories of a project, and header search (the places that ISO/IEC 9899:2018, 6.10.2, leaves to the
 -- implementation; all of it is chosen here).
-use Rattle.std.specs.Prelude.{ℕ, ◌+◌, ◌==◌, ◌||◌, not, Bool, true, List, [], ◌∷◌, ◌++◌, Option, Some, None, Result, Ok, Err, if◌then◌else◌, length, map, drop, fold, position, slice_get, filter_map, nat_lt, is_none, option_map, option_and_then, unwrap_or, ◌&&◌, codes, bytes_eq}
+use Rattle.std.specs.Prelude.{ℕ, ◌+◌, ◌==◌, ◌||◌, not, Bool, true, List, [], ◌∷◌, ◌++◌, Option, Some, None, Result, Ok, Err, if◌then◌else◌, length, map, take, drop, fold, position, slice_get, filter_map, nat_lt, is_none, option_map, option_and_then, unwrap_or, ◌&&◌, codes, bytes_eq}
 use Rattle.std.specs.List.{list_any, join_with_byte}
 use Rattle.std.specs.Option.{option_map_or}
 use Rattle.inc_lookup.specs.declared.listings.TheConstants.{LONGEST_PATH}
@@ -18,15 +18,21 @@ pub record File : Type 0 where
   pub path : List ℕ
   pub bytes : List ℕ
 
--- the files and the search directories, with paths in normal form
+-- an include path: its directories, in the order in which they are searched. A name between < and > is not searched in the first so many,
+-- which are for names between " alone
+pub record SearchPath : Type 0 where
+  pub dirs : List (List ℕ)
+  pub quoted : ℕ
+
+-- the files and the include path, with paths in normal form
 pub record Listing : Type 0 where
   pub files : List File
-  pub dirs : List (List ℕ)
+  pub search : SearchPath
 
--- the paths of the files and the search directories, in normal form: what a project keeps of a listing
+-- the paths of the files and the include path, in normal form: what a project keeps of a listing
 pub record Layout : Type 0 where
   pub paths : List (List ℕ)
-  pub dirs : List (List ℕ)
+  pub search : SearchPath
 
 -- the directory of a file with a path in normal form: what is before the last /, and / itself for a file such as /a.c
 abbrev pub directory_of : List ℕ → List ℕ
@@ -51,19 +57,19 @@ path_from at [] = []
 path_from at (dir ∷ dirs) = record { path = dir; next = Some (at + 1) } ∷ path_from (at + 1) dirs
 
 -- the directories to look in, for a directive in the file at the path `from`; of an #include_next those from `after` on, whatever its form
-abbrev pub places : List (List ℕ) → List ℕ → Form → (after : Option ℕ) → List Spot
-places dirs from form (Some k) = path_from k (drop k dirs)
-places dirs from Quoted None = record { path = directory_of from; next = Some 0 } ∷ path_from 0 dirs
-places dirs from Angled None = path_from 0 dirs
+abbrev pub places : SearchPath → List ℕ → Form → (after : Option ℕ) → List Spot
+places search from form (Some k) = path_from k (drop k search.dirs)
+places search from Quoted None = record { path = directory_of from; next = Some 0 } ∷ path_from 0 search.dirs
+places search from Angled None = path_from search.quoted (drop search.quoted search.dirs)
 
 -- a name in a directory to look in
 abbrev pub spot_of : List ℕ → Spot → Spot
 spot_of name s = record { path = joined_path s.path name; next = s.next }
 
 -- the paths to look for, in order
-abbrev pub candidates : List (List ℕ) → List ℕ → Form → (after : Option ℕ) → List ℕ → List Spot
-candidates dirs from form after name =
-    if is_absolute name then record { path = name; next = None } ∷ [] else map (spot_of name) (places dirs from form after)
+abbrev pub candidates : SearchPath → List ℕ → Form → (after : Option ℕ) → List ℕ → List Spot
+candidates search from form after name =
+    if is_absolute name then record { path = name; next = None } ∷ [] else map (spot_of name) (places search from form after)
 
 -- the first place of a path in a list of paths
 abbrev pub place_of : List ℕ → List (List ℕ) → Option ℕ
@@ -90,7 +96,7 @@ abbrev pub paths_of : List File → List (List ℕ)
 paths_of files = map (λ (f : File). f.path) files
 
 abbrev pub layout_of : Listing → Layout
-layout_of listing = record { paths = paths_of listing.files; dirs = listing.dirs }
+layout_of listing = record { paths = paths_of listing.files; search = listing.search }
 
 -- the path and the bytes of the file at a place
 abbrev pub path_at : Layout → ℕ → List ℕ
@@ -101,7 +107,7 @@ bytes_at listing i = option_map_or (λ (f : File). f.bytes) (slice_get listing.f
 
 -- the file that a directive names, and where an #include_next in that file goes on; `after`: where an #include_next itself does
 abbrev pub found_place : Layout → List ℕ → Form → (after : Option ℕ) → List ℕ → Option Found
-found_place layout from form after name = found_among layout.paths (candidates layout.dirs from form after name)
+found_place layout from form after name = found_among layout.paths (candidates layout.search from form after name)
 
 -- the file that an include directive names, by its place in the list
 abbrev pub found_file : Layout → List ℕ → Form → List ℕ → Option ℕ
@@ -157,7 +163,15 @@ project_fault paths dirs =
     ∷ option_map (λ (p : ℕ × ℕ). SamePath p.0 p.1) (same_path paths)
     ∷ [])
 
--- the project of files with these paths, and of these directories, each once
-abbrev pub project_of : (paths dirs : List (List ℕ)) → Result Layout ProjectFault
-project_of paths dirs =
-    option_map_or Err (project_fault paths dirs) (Ok (record { paths = normal_forms paths; dirs = each_once (normal_forms dirs) }))
+-- the include path of these directories, of which the first so many are for names between " alone: each is once among those, and once among
+-- the others
+abbrev pub search_of : (quoted : ℕ) → (dirs : List (List ℕ)) → SearchPath
+search_of quoted dirs = record {
+  dirs = each_once (take quoted dirs) ++ each_once (drop quoted dirs);
+  quoted = length (each_once (take quoted dirs));
+}
+
+-- the project of files with these paths, and of these directories
+abbrev pub project_of : (paths : List (List ℕ)) → (quoted : ℕ) → (dirs : List (List ℕ)) → Result Layout ProjectFault
+project_of paths quoted dirs =
+    option_map_or Err (project_fault paths dirs) (Ok (record { paths = normal_forms paths; search = search_of quoted (normal_forms dirs) }))

@@ -2,7 +2,7 @@
 ghost use Rattle.std.specs.Prelude.{◌≡◌, ◌++◌, ℕ, List, [], Some, Ok, IsTrue, codes, if◌then◌else◌, map};
 ghost use Rattle.std.specs.List.{list_all, join_with_byte};
 ghost use Rattle.inc_lookup.specs.Paths.{is_absolute, normal_form};
-ghost use Rattle.inc_lookup.specs.Projects.{File, Layout, Listing, directory_of, each_once, found_file, project_of};
+ghost use Rattle.inc_lookup.specs.Projects.{File, Layout, Listing, directory_of, found_file, project_of, search_of};
 ghost use Rattle.inc_lookup.specs.Given.{Given, Gave, Agrees};
 ghost use Rattle.inc_lookup.specs.Held.{held_gives};
 ghost use Rattle.inc_lookup.specs.PathParts.{is_kept};
@@ -25,12 +25,14 @@ pub fn normal_forms_are_names()
 {}
 
 /// The paths of a project are the normal forms of those that it is made of, in order, none dropped and none added; its directories
-/// are the normal forms of those that it is made of, each once, where it comes first.
+/// are the normal forms of those that it is made of, each once among those for names between `"` alone and once among the others, where it
+/// comes first.
 pub fn projects_keep_their_paths()
-    ensures { (paths dirs : List (List ℕ)) (layout : Layout) → project_of paths dirs ≡ Ok layout →
+    ensures { (paths : List (List ℕ)) (quoted : ℕ) (dirs : List (List ℕ)) (layout : Layout) →
+        project_of paths quoted dirs ≡ Ok layout →
         (map normal_form paths ≡ map (λ path. Some path) layout.paths)
         × ((forms : List (List ℕ)) × (map normal_form dirs ≡ map (λ dir. Some dir) forms)
-        × (layout.dirs ≡ each_once forms)) }
+        × (layout.search ≡ search_of quoted forms)) }
 {}
 
 /// What a header name finds depends on the directory of the file that includes it, on the form, the name, the paths of the files

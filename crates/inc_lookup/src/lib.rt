@@ -17,7 +17,7 @@ mod simple_names;
 mod sources;
 
 pub use directive_sets::DirectiveSet;
-pub use include_path::{NamedDir, include_dirs};
+pub use include_path::{NamedDir, NamedPath, named_path};
 pub use listings::LONGEST_PATH;
 pub use name_lists::NameList;
 pub use paths::normalise;

@@ -128,7 +128,7 @@ pub struct Project<'a> {
     /// No path has more bytes.
     longest: usize,
     /// Its own include path.
-    dirs: IncludePath,
+    search: IncludePath,
     /// Tables of this run are hashed with it.
     seed: u64,
 }
@@ -139,28 +139,29 @@ impl<'a> Model for Project<'a> {
 
     ghost Value = { Layout };
 
-    ghost view = { λ p. record { paths = p.paths; dirs = p.dirs } };
+    ghost view = { λ p. record { paths = p.paths; search = p.search } };
 
-    ghost invariant = { λ p. IsKept p.longest p.paths p.dirs };
+    ghost invariant = { λ p. IsKept p.longest p.paths p.search.dirs };
 }
 
 /// The most files of a project.
 pub const MOST_FILES: usize = 65_535;
 
 impl<'a> Project<'a> {
-    /// A project of files with these paths, in their order, and of these search directories, which are its own include path. The seed is
-    /// that of the table of paths and of all other tables of a run, so that whoever writes the files cannot choose names that make
-    /// look-ups slow: a program draws it anew for each run.
+    /// A project of files with these paths, in their order, and of these search directories, which are its own include path; the first
+    /// `quoted` of them are for names between `"` alone. The seed is that of the table of paths and of all other tables of a run, so
+    /// that whoever writes the files cannot choose names that make look-ups slow: a program draws it anew for each run.
     pub fn new(
         alloc: Global,
         seed: u64,
         paths: &'a [&'a [u8]],
+        quoted: usize,
         dirs: &[&[u8]],
     ) -> Result<Project<'a>, ProjectFault>
-        ensures project { IfOk result (λ project. project_of (map (λ p. p.now) paths.now)
+        ensures project { IfOk result (λ project. project_of (map (λ p. p.now) paths.now) quoted
             (map (λ d. d.now) dirs.now) ≡ Ok project) }
         ensures fault { IfErr result (λ fault. fault ≢ ProjectFault.NoMemory →
-            project_of (map (λ p. p.now) paths.now) (map (λ d. d.now) dirs.now) ≡ Err fault) }
+            project_of (map (λ p. p.now) paths.now) quoted (map (λ d. d.now) dirs.now) ≡ Err fault) }
     {
         if paths.len() > MOST_FILES {
             return Err(ProjectFault::TooManyFiles);
@@ -172,11 +173,11 @@ impl<'a> Project<'a> {
             return Err(ProjectFault::SamePath { first, second });
         }
         let longest = paths.longest();
-        let dirs = IncludePath::of_forms(alloc, seed, &dirs)?;
+        let search = IncludePath::of_forms(alloc, seed, quoted, &dirs)?;
         Ok(Project {
             paths,
             longest,
-            dirs,
+            search,
             seed,
         })
     }
@@ -188,9 +189,9 @@ impl<'a> Project<'a> {
 
     /// Its own include path.
     pub fn include_path(&self) -> &IncludePath
-        ensures { result.now ≡ self.now.dirs }
+        ensures { result.now ≡ self.now.search }
     {
-        &self.dirs
+        &self.search
     }
 
     /// How many files there are: at most [`MOST_FILES`].
@@ -306,14 +307,14 @@ impl<'a> Project<'a> {
         ensures within { IfOk result (λ found. IfSome found
             (λ f. f.file < length self.now.paths)) }
     {
-        self.find_in(alloc, &self.dirs, from, form, after, name)
+        self.find_in(alloc, &self.search, from, form, after, name)
     }
 
     /// As [`Project::find_from`], in another include path in place of the project's own.
     pub fn find_in(
         &self,
         alloc: Global,
-        dirs: &IncludePath,
+        search: &IncludePath,
         from: FileId,
         form: Form,
         after: Option<usize>,
@@ -321,7 +322,7 @@ impl<'a> Project<'a> {
     ) -> Result<Option<Found>, AllocError>
         requires { from < length self.now.paths }
         ensures found { IfOk result (λ found. found
-            ≡ found_place (record { paths = self.now.paths; dirs = dirs.now }) (path_at self.now from) form after name.now) }
+            ≡ found_place (record { paths = self.now.paths; search = search.now }) (path_at self.now from) form after name.now) }
         ensures within { IfOk result (λ found. IfSome found
             (λ f. f.file < length self.now.paths)) }
     {
@@ -330,7 +331,7 @@ impl<'a> Project<'a> {
                 climbs: 0,
                 rest: name,
             };
-            return self.look(alloc, dirs, from, form, after, &plain);
+            return self.look(alloc, search, from, form, after, &plain);
         }
         let reduction = Reduction::new(alloc, name)?;
         let reduced = Reduced {
@@ -341,14 +342,14 @@ impl<'a> Project<'a> {
             let mut buffer = Vec::new(alloc);
             return self.look_at(&mut buffer, b"/", &reduced, None);
         }
-        self.look(alloc, dirs, from, form, after, &reduced)
+        self.look(alloc, search, from, form, after, &reduced)
     }
 
     /// The first file with this relative name where a directive of this form looks for it. All candidates are made in one buffer.
     fn look(
         &self,
         alloc: Global,
-        dirs: &IncludePath,
+        search: &IncludePath,
         from: FileId,
         form: Form,
         after: Option<usize>,
@@ -357,17 +358,17 @@ impl<'a> Project<'a> {
         requires { from < length self.now.paths }
         ensures found { IfOk result (λ found. (text : List ℕ) →
             IsReduced text name.now.climbs name.now.rest.now → is_absolute text ≡ false →
-            found ≡ found_place (record { paths = self.now.paths; dirs = dirs.now }) (path_at self.now from) form after text) }
+            found ≡ found_place (record { paths = self.now.paths; search = search.now }) (path_at self.now from) form after text) }
         ensures within { IfOk result (λ found. IfSome found
             (λ f. f.file < length self.now.paths)) }
     {
         let mut buffer = Vec::new(alloc);
         if let Some(first) = after {
-            return self.look_in_dirs(&mut buffer, dirs, first, name);
+            return self.look_in_dirs(&mut buffer, search, first, name);
         }
         match form {
-            Form::Quoted => self.look_from(&mut buffer, dirs, from, name),
-            Form::Angled => self.look_in_dirs(&mut buffer, dirs, 0, name),
+            Form::Quoted => self.look_from(&mut buffer, search, from, name),
+            Form::Angled => self.look_in_dirs(&mut buffer, search, search.quoted(), name),
         }
     }
 
@@ -375,14 +376,14 @@ impl<'a> Project<'a> {
     fn look_from(
         &self,
         buffer: &mut Vec<u8>,
-        dirs: &IncludePath,
+        search: &IncludePath,
         from: FileId,
         name: &Reduced<'_>,
     ) -> Result<Option<Found>, AllocError>
         requires { from < length self.now.paths }
         ensures found { IfOk result (λ found. (text : List ℕ) →
             IsReduced text name.now.climbs name.now.rest.now → is_absolute text ≡ false →
-            found ≡ found_place (record { paths = self.now.paths; dirs = dirs.now }) (path_at self.now from) Quoted None text) }
+            found ≡ found_place (record { paths = self.now.paths; search = search.now }) (path_at self.now from) Quoted None text) }
         ensures within { IfOk result (λ found. IfSome found
             (λ f. f.file < length self.now.paths)) }
     {
@@ -390,25 +391,25 @@ impl<'a> Project<'a> {
         if let Some(found) = self.look_at(buffer, dir, name, Some(0))? {
             return Ok(Some(found));
         }
-        self.look_in_dirs(buffer, dirs, 0, name)
+        self.look_in_dirs(buffer, search, 0, name)
     }
 
     /// The first file with this name in the directories of the include path from a place on.
     fn look_in_dirs(
         &self,
         buffer: &mut Vec<u8>,
-        dirs: &IncludePath,
+        search: &IncludePath,
         first: usize,
         name: &Reduced<'_>,
     ) -> Result<Option<Found>, AllocError>
         ensures found { IfOk result (λ found. (text : List ℕ) →
             IsReduced text name.now.climbs name.now.rest.now → is_absolute text ≡ false →
-            found ≡ found_in self.now.paths dirs.now first text) }
+            found ≡ found_in self.now.paths search.now.dirs first text) }
         ensures within { IfOk result (λ found. IfSome found
             (λ f. f.file < length self.now.paths)) }
     {
-        for index in first..dirs.len() {
-            let dir = dirs.dir(index);
+        for index in first..search.len() {
+            let dir = search.dir(index);
             if let Some(found) = self.look_at(buffer, dir, name, Some(index + 1))? {
                 return Ok(Some(found));
             }

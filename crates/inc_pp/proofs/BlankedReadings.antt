@@ -88,7 +88,7 @@ module _ (settings : Settings) (listing : Listing) (without others : List Direct
   new = record { listing = blank; settings = settings; without = others }
 
   layouts : layout_of listing ≡ layout_of blank
-  layouts = ap (λ (ps : List (List ℕ)). record { paths = ps; dirs = listing.dirs })
+  layouts = ap (λ (ps : List (List ℕ)). record { paths = ps; search = listing.search })
       (sym (paths_blanked settings.language without listing.files 0))
 
   listed : (i : ℕ) → is_listed (without ++ others) i ≡ (λ n. is_listed without i n || is_listed others i n)

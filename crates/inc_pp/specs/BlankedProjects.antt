@@ -16,7 +16,7 @@ blanked_files language without i (f ∷ fs) =
 
 abbrev pub blanked_listing : Language → Listing → List DirectiveId → Listing
 blanked_listing language listing without =
-    record { files = blanked_files language without 0 listing.files; dirs = listing.dirs }
+    record { files = blanked_files language without 0 listing.files; search = listing.search }
 
 -- blanked files preprocess as the old ones with the directives removed
 abbrev pub BlankingIsRemoval : Type 0

@@ -13,9 +13,10 @@ use Rattle.inc_graph.specs.IncludeGraph.{Edge, Graph}
 use Rattle.inc_graph.specs.MissingLists.{Missing}
 use Rattle.inc_graph.specs.Reaching.{Reaching}
 use Rattle.inc_graph.specs.declared.graphs.Blocker.{Blocker}
-use Rattle.inc_report.specs.JsonAnswers.{About, blocked_text, blocker_text, blockers_text, chain_if, chains_text, counted_item, counted_text, cut_json, edge_text, edges_text, file_member, fixed_json, found_text, from_text, front_text, graph_json, links_text, missing_item, missing_text, named_form, names_text, numbered_text, place_text, sets_ends, shortest_text, source_item, sources_text, to_text, who_json, why_ends, why_json}
+use Rattle.inc_report.specs.JsonAnswers.{About, blocked_text, blocker_text, blockers_text, chain_if, chains_text, counted_item, counted_text, cut_json, edge_text, edges_text, file_member, fixed_json, found_text, from_text, front_text, graph_json, links_text, missing_item, missing_text, named_form, names_text, numbered_text, place_text, sets_ends, shortest_text, source_item, sources_text, status_text, to_text, who_json, why_ends, why_json}
 use Rattle.inc_report.specs.JsonDirectives.{directive_text}
 use Rattle.inc_report.specs.JsonTexts.{bytes_member, list_of, number_member}
+use Rattle.inc_report.specs.declared.outcome.EndKind.{EndKind}
 use Rattle.inc_report.specs.MissingNames.{MissingName, counted_once_more, first_named, missing_names, spelled, with_missing}
 
 -- functions that agree on elements give one list
@@ -117,19 +118,20 @@ module _ (layout : Layout) (g : Graph) (k l : DirectiveId → LineKind) where
     found_same shortest =
         ap₂ (λ (missing chain : List ℕ). codes ",\"missing\":" ++ missing ++ codes ",\"shortest\":" ++ chain) missing_same (shortest_same shortest)
 
-    sets_same : (shortest : Option (List ℕ)) → sets_ends (by k) shortest ≡ sets_ends (by l) shortest
-    sets_same shortest = ap (λ (found : List ℕ). from_text (by k) ++ found ++ codes ",\"status\":0," ++ to_text (by k) ++ codes "}\n") (found_same shortest)
+    sets_same : (kind : EndKind) (shortest : Option (List ℕ)) → sets_ends kind (by k) shortest ≡ sets_ends kind (by l) shortest
+    sets_same kind shortest = ap (λ (found : List ℕ). from_text (by k) ++ found ++ status_text kind ++ codes "," ++ to_text (by k) ++ codes "}\n") (found_same shortest)
 
-    ends_same : (ss ts : List ℕ) (shortest : Option (List ℕ)) → why_ends (by k) ss ts shortest ≡ why_ends (by l) ss ts shortest
-    ends_same [] ts shortest = sets_same shortest
-    ends_same (s ∷ []) [] shortest = sets_same shortest
-    ends_same (s ∷ []) (t ∷ []) shortest =
-        ap (λ (found : List ℕ). file_member (codes "header") (by k) t ++ found ++ codes "," ++ file_member (codes "source") (by k) s ++ codes ",\"status\":0}\n") (found_same shortest)
-    ends_same (s ∷ []) (t ∷ u ∷ ts) shortest = sets_same shortest
-    ends_same (s ∷ r ∷ ss) ts shortest = sets_same shortest
+    ends_same : (kind : EndKind) (ss ts : List ℕ) (shortest : Option (List ℕ)) → why_ends kind (by k) ss ts shortest ≡ why_ends kind (by l) ss ts shortest
+    ends_same kind [] ts shortest = sets_same kind shortest
+    ends_same kind (s ∷ []) [] shortest = sets_same kind shortest
+    ends_same kind (s ∷ []) (t ∷ []) shortest =
+        ap (λ (found : List ℕ). file_member (codes "header") (by k) t ++ found ++ codes "," ++ file_member (codes "source") (by k) s ++ status_text kind ++ codes "}\n") (found_same shortest)
+    ends_same kind (s ∷ []) (t ∷ u ∷ ts) shortest = sets_same kind shortest
+    ends_same kind (s ∷ r ∷ ss) ts shortest = sets_same kind shortest
 
-    pub why_same : (shortest : Option (List ℕ)) (chains : List (List ℕ)) → why_json (by k) shortest chains ≡ why_json (by l) shortest chains
-    why_same shortest chains = ap₂ (λ (front ends : List ℕ). front ++ ends) (front_same (codes "why") chains) (ends_same g.sources g.headers shortest)
+    pub why_same : (kind : EndKind) (shortest : Option (List ℕ)) (chains : List (List ℕ)) → why_json kind (by k) shortest chains ≡ why_json kind (by l) shortest chains
+    why_same kind shortest chains =
+        ap₂ (λ (front ends : List ℕ). front ++ ends) (front_same (codes "why") chains) (ends_same kind g.sources g.headers shortest)
 
     chain_same : (all : Bool) (chain : List ℕ) → chain_if all (by k) chain ≡ chain_if all (by l) chain
     chain_same true chain = ap (λ (text : List ℕ). codes "\"chain\":" ++ text ++ codes ",") (edges_same chain)
@@ -143,15 +145,15 @@ module _ (layout : Layout) (g : Graph) (k l : DirectiveId → LineKind) where
     sources_same : (all : Bool) (rs : List Reaching) → sources_text all (by k) rs ≡ sources_text all (by l) rs
     sources_same all rs = ap list_of (each_same (source_item all (by k)) (source_item all (by l)) rs (source_same all))
 
-    who_ends : (front missing sources : List ℕ) → List ℕ
-    who_ends front missing sources =
-        front ++ from_text (by k) ++ codes ",\"missing\":" ++ missing ++ codes ",\"sources\":" ++ sources ++ codes ",\"status\":0," ++ to_text (by k) ++ codes "}\n"
+    who_ends : (kind : EndKind) → (front missing sources : List ℕ) → List ℕ
+    who_ends kind front missing sources =
+        front ++ from_text (by k) ++ codes ",\"missing\":" ++ missing ++ codes ",\"sources\":" ++ sources ++ status_text kind ++ codes "," ++ to_text (by k) ++ codes "}\n"
 
-    pub who_same : (all : Bool) (rs : List Reaching) (chains : List (List ℕ)) → who_json all (by k) rs chains ≡ who_json all (by l) rs chains
+    pub who_same : (kind : EndKind) (all : Bool) (rs : List Reaching) (chains : List (List ℕ)) → who_json kind all (by k) rs chains ≡ who_json kind all (by l) rs chains
     unfolding who_ends
-    who_same all rs chains =
-        ap₂ (λ (front missing : List ℕ). who_ends front missing (sources_text all (by k) rs)) (front_same (codes "who") chains) missing_same
-        ∙ ap (who_ends (front_text (codes "who") (by l) chains) (missing_text (by l))) (sources_same all rs)
+    who_same kind all rs chains =
+        ap₂ (λ (front missing : List ℕ). who_ends kind front missing (sources_text all (by k) rs)) (front_same (codes "who") chains) missing_same
+        ∙ ap (who_ends kind (front_text (codes "who") (by l) chains) (missing_text (by l))) (sources_same all rs)
 
     links_same : links_text (by k) g.edges ≡ links_text (by l) g.edges
     links_same =

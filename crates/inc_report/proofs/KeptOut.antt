@@ -21,7 +21,7 @@ use Rattle.inc_directive.specs.declared.files.FileFault as declared
 use Rattle.inc_lookup.specs.DirectiveLists.{is_listed}
 use Rattle.inc_lookup.specs.declared.projects.DirectiveId.{DirectiveId}
 use Rattle.inc_lookup.specs.declared.projects.Found.{Found}
-use Rattle.inc_lookup.specs.Projects.{File, Listing, each_once, path_at, bytes_at, found_place}
+use Rattle.inc_lookup.specs.Projects.{File, Listing, SearchPath, each_once, path_at, bytes_at, found_place}
 use Rattle.inc_graph.specs.declared.graphs.Blocker.{Blocker}
 use Rattle.inc_graph.specs.declared.graphs.BlockerKind.{BlockerKind}
 use Rattle.inc_graph.specs.declared.graphs.BlockerKind.TheVariants as kind
@@ -415,7 +415,7 @@ once_define_none language words names none = by (with_words 0 words (no_macros l
     by (Err fault) h = tt
 
 -- what holds of names of which each is there once holds of the names
-pub of_names_once : (others : List (List (List ℕ))) (listing : Listing) (language : Language) (names : List (List ℕ)) (sources : List Source) (headers : List ℕ) (removed : List DirectiveId)
+pub of_names_once : (others : List SearchPath) (listing : Listing) (language : Language) (names : List (List ℕ)) (sources : List Source) (headers : List ℕ) (removed : List DirectiveId)
     → NeverReadAny others listing language (each_once names) sources headers removed → NeverReadAny others listing language names sources headers removed
 of_names_once others listing language names sources headers removed never source header begins ends words settings outcome same none is =
     never source header begins ends words settings outcome same (once_define_none language words names none) is

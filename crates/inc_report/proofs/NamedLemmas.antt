@@ -30,7 +30,7 @@ use Rattle.inc_report.specs.KeptFiles.{Fits, Kept, OfKept, keeps, kept_at}
 use Rattle.inc_report.specs.Known.{IsKnown}
 use Rattle.inc_report.specs.NamedHeadline.{HasGraph, NamedCutHeadline, NamedHeadline, NamedIsFixed, NamedKeepsHeadersOut}
 use Rattle.inc_report.specs.NamedText.{IsHinderedKept, IsInAnyFormat, IsInFormat, IsNamedAs, IsNamedBy, IsNamedKept, IsNamedOf, IsObject, IsReport, IsReportOf, about, answer_document, answer_json, answer_lines, answer_text, command_name, printed_answer}
-use Rattle.inc_report.specs.Printed.{Printed, answered, end_of, refused_for}
+use Rattle.inc_report.specs.Printed.{Printed, answered, end_of, reached_kind, refused_for}
 use Rattle.inc_report.specs.Questions.{Answer, IsAnswerBy}
 use Rattle.inc_report.specs.Refusals.{Blocked, Refusal, refusal, refusal_for}
 use Rattle.inc_report.specs.Terms.{Question, Limits, named_directives, setting_in}
@@ -62,6 +62,11 @@ use Rattle.inc_report.proofs.UnresolvedTexts.{blocker_in_text, missing_in_text}
 -- a text, and how the call ends
 abbrev pub printed_as : (text : List ℕ) → End → Printed
 printed_as text end = record { text = text; end = end }
+
+-- by its parts
+pub printed_same : (text told notes noted : List ℕ) (kind ends : EndKind) → text ≡ told → notes ≡ noted → kind ≡ ends
+    → printed_as text (end_of notes kind) ≡ printed_as told (end_of noted ends)
+printed_same text told notes noted kind ends a b c = rw (a, b, c) refl
 
 ---- directives by the files of a listing
 
@@ -110,12 +115,13 @@ module _ (language : Language) (kept : Kept) (layout : Layout) (listing : Listin
     document_kept all costed most (Removed set chains) = cut_kept kept g held all costed most layout set chains
     document_kept all costed most (FixedChain chain) = fixed_kept kept g held layout chain
 
-    object_same : (all : Bool) (answer : report.Answer) → answer_json all (kept_about language kept layout g) answer ≡ answer_json all (about language listing layout g) answer
-    object_same all (Chains shortest chains) = why_same layout g (kept_kind language kept) (kind_of language listing) all_same shortest chains
-    object_same all (Sources reaching chains) = who_same layout g (kept_kind language kept) (kind_of language listing) all_same all reaching chains
-    object_same all Edges = graph_same layout g (kept_kind language kept) (kind_of language listing) all_same
-    object_same all (Removed set chains) = cut_same layout g (kept_kind language kept) (kind_of language listing) all_same set chains
-    object_same all (FixedChain chain) = fixed_same layout g (kept_kind language kept) (kind_of language listing) all_same chain
+    object_same : (kind : EndKind) (all : Bool) (answer : report.Answer)
+        → answer_json kind all (kept_about language kept layout g) answer ≡ answer_json kind all (about language listing layout g) answer
+    object_same kind all (Chains shortest chains) = why_same layout g (kept_kind language kept) (kind_of language listing) all_same kind shortest chains
+    object_same kind all (Sources reaching chains) = who_same layout g (kept_kind language kept) (kind_of language listing) all_same kind all reaching chains
+    object_same kind all Edges = graph_same layout g (kept_kind language kept) (kind_of language listing) all_same
+    object_same kind all (Removed set chains) = cut_same layout g (kept_kind language kept) (kind_of language listing) all_same set chains
+    object_same kind all (FixedChain chain) = fixed_same layout g (kept_kind language kept) (kind_of language listing) all_same chain
 
     answer_same : (form : NamedForm) (costed : Bool) (amounts : List ℕ) (answer : report.Answer)
         → answer_text form costed amounts (kept_about language kept layout g) answer ≡ answer_text form costed amounts (about language listing layout g) answer
@@ -124,14 +130,14 @@ module _ (language : Language) (kept : Kept) (layout : Layout) (listing : Listin
         by : (f : Format)
             → answer_text (record form { format = f }) costed amounts (kept_about language kept layout g) answer ≡ answer_text (record form { format = f }) costed amounts (about language listing layout g) answer
         by Gcc = text_same (answer_document form.all costed form.most layout g answer) (document_kept form.all costed form.most answer)
-        by Json = object_same form.all answer
+        by Json = object_same (end_kind form.fails answer) form.all answer
         by Dot = refl
 
     -- what is printed by what is kept is printed of the listing
     pub report_same : (asked : Asked) (form : NamedForm) (costed : Bool) (amounts : List ℕ) (p : Printed) → IsReport asked form costed (kept_about language kept layout g) amounts p
         → IsReportOf asked form costed language listing layout g amounts p
     report_same asked form costed amounts p r =
-        (r.0, r.1, r.2 ∙ ap (λ (text : List ℕ). printed_as text (end_of (notes_of layout g r.0) (end_kind r.0))) (answer_same form costed amounts r.0))
+        (r.0, r.1, r.2 ∙ ap (λ (text : List ℕ). printed_as text (end_of (notes_of layout g r.0) (end_kind form.fails r.0))) (answer_same form costed amounts r.0))
 
 ---- formats
 
@@ -194,9 +200,15 @@ module _ (form : NamedForm) (l : Limits) (s : Subject) (held : AreGraphKept s.gr
   abbrev own : Layout
   own = s.project.now
 
-  stated : (answer : report.Answer) → p.end.kind ≡ end_kind answer → p.end.kind ≢ Refused
-  stated (Chains shortest chains) is same = cc
-  stated (Sources reaching chains) is same = cc
+  stated_reached : (fails : Bool) → p.end.kind ≡ reached_kind fails → p.end.kind ≢ Refused
+  stated_reached true is same = cc
+  stated_reached false is same = cc
+
+  stated : (answer : report.Answer) → p.end.kind ≡ end_kind form.fails answer → p.end.kind ≢ Refused
+  stated (Chains None chains) is same = cc
+  stated (Chains (Some chain) chains) is same = stated_reached form.fails is same
+  stated (Sources [] chains) is same = cc
+  stated (Sources (r ∷ rs) chains) is same = stated_reached form.fails is same
   stated Edges is same = cc
   stated (Removed set chains) is same = cc
   stated (FixedChain chain) is same = cc

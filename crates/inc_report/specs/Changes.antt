@@ -38,7 +38,7 @@ bytes_after (c ∷ cs) f = if bytes_eq c.path f.path then c.after else bytes_aft
 abbrev pub changed_listing : List Change → Listing → Listing
 changed_listing cs listing = record {
   files = map (λ (f : File). record { path = f.path; bytes = bytes_after cs f }) listing.files;
-  dirs = listing.dirs;
+  search = listing.search;
 }
 
 ---- how they are found

@@ -5,7 +5,7 @@ use Rattle.inc_graph.specs.Settings.{listing_in}
 use Rattle.inc_graph.specs.declared.building.Source.{Source}
 use Rattle.inc_text.specs.declared.languages.Language.{Language}
 use Rattle.inc_lookup.specs.declared.projects.DirectiveId.{DirectiveId}
-use Rattle.inc_lookup.specs.Projects.{Listing, layout_of}
+use Rattle.inc_lookup.specs.Projects.{Listing, SearchPath, layout_of}
 use Rattle.inc_graph.specs.Members.{is_member}
 use Rattle.inc_graph.specs.Cuts.{fixed_by, costs_by, IsCheapest, IsCostCertificate, IsFixedChain}
 use Rattle.inc_graph.specs.IncludeGraph.{Graph, IsGraphAnswer}
@@ -36,7 +36,7 @@ NeverReads listing language undefined source header removed =
 
 -- the same for each of several sources, with its include path, and each of several headers; these are the include paths beside the
 -- project's own
-abbrev pub NeverReadAny : (others : List (List (List ℕ))) → Listing → Language → (undefined : List (List ℕ)) → (sources : List Source) → (headers : List ℕ) → (removed : List DirectiveId) → Type 0
+abbrev pub NeverReadAny : (others : List SearchPath) → Listing → Language → (undefined : List (List ℕ)) → (sources : List Source) → (headers : List ℕ) → (removed : List DirectiveId) → Type 0
 NeverReadAny others listing language undefined sources headers removed =
     (source : Source) (header : ℕ) → Contains sources source → IsTrue (is_member header headers) →
     NeverReads (listing_in others listing source.path) language undefined source.file header removed

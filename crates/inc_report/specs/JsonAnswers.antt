@@ -17,6 +17,8 @@ use Rattle.inc_report.specs.JsonTexts.{bytes_item, bytes_member, list_of, number
 use Rattle.inc_report.specs.KeptFiles.{Kept}
 use Rattle.inc_report.specs.MissingNames.{MissingName, missing_names}
 use Rattle.inc_report.specs.NameTables.{NameSource}
+use Rattle.inc_report.specs.declared.outcome.EndKind.{EndKind}
+use Rattle.inc_report.specs.declared.outcome.EndKind.TheVariants.{Answered, Negative, Refused}
 use Rattle.inc_report.specs.declared.subjects.Subject.{Subject}
 
 -- a graph, with the paths of its files and what its directives are
@@ -92,6 +94,12 @@ from_text a = codes "\"from\":" ++ files_text a a.graph.sources
 abbrev pub to_text : About → List ℕ
 to_text a = codes "\"to\":" ++ files_text a a.graph.headers
 
+-- the status of a call that ends so
+abbrev pub status_text : EndKind → List ℕ
+status_text Answered = codes ",\"status\":0"
+status_text Negative = codes ",\"status\":1"
+status_text Refused = codes ",\"status\":4"
+
 ---- `why`
 
 abbrev pub shortest_text : About → Option (List ℕ) → List ℕ
@@ -108,17 +116,18 @@ abbrev pub found_text : About → Option (List ℕ) → List ℕ
 found_text a shortest = codes ",\"missing\":" ++ missing_text a ++ codes ",\"shortest\":" ++ shortest_text a shortest
 
 -- the rest of several sources or headers
-abbrev pub sets_ends : About → Option (List ℕ) → List ℕ
-sets_ends a shortest = from_text a ++ found_text a shortest ++ codes ",\"status\":0," ++ to_text a ++ codes "}\n"
+abbrev pub sets_ends : EndKind → About → Option (List ℕ) → List ℕ
+sets_ends kind a shortest = from_text a ++ found_text a shortest ++ status_text kind ++ codes "," ++ to_text a ++ codes "}\n"
 
 -- the rest of one source and one header, or of several
-abbrev pub why_ends : About → (sources headers : List ℕ) → Option (List ℕ) → List ℕ
-why_ends a (s ∷ []) (t ∷ []) shortest =
-    file_member (codes "header") a t ++ found_text a shortest ++ codes "," ++ file_member (codes "source") a s ++ codes ",\"status\":0}\n"
-why_ends a ss ts shortest = sets_ends a shortest
+abbrev pub why_ends : EndKind → About → (sources headers : List ℕ) → Option (List ℕ) → List ℕ
+why_ends kind a (s ∷ []) (t ∷ []) shortest =
+    file_member (codes "header") a t ++ found_text a shortest ++ codes "," ++ file_member (codes "source") a s ++ status_text kind ++ codes "}\n"
+why_ends kind a ss ts shortest = sets_ends kind a shortest
 
-abbrev pub why_json : About → (shortest : Option (List ℕ)) → (chains : List (List ℕ)) → List ℕ
-why_json a shortest chains = front_text (codes "why") a chains ++ why_ends a a.graph.sources a.graph.headers shortest
+-- of a call that ends so
+abbrev pub why_json : EndKind → About → (shortest : Option (List ℕ)) → (chains : List (List ℕ)) → List ℕ
+why_json kind a shortest chains = front_text (codes "why") a chains ++ why_ends kind a a.graph.sources a.graph.headers shortest
 
 ---- `who`
 
@@ -134,10 +143,10 @@ source_item all a r =
 abbrev pub sources_text : (all : Bool) → About → List Reaching → List ℕ
 sources_text all a reaching = list_of (map (source_item all a) reaching)
 
-abbrev pub who_json : (all : Bool) → About → List Reaching → (chains : List (List ℕ)) → List ℕ
-who_json all a reaching chains =
+abbrev pub who_json : EndKind → (all : Bool) → About → List Reaching → (chains : List (List ℕ)) → List ℕ
+who_json kind all a reaching chains =
     front_text (codes "who") a chains ++ from_text a ++ codes ",\"missing\":" ++ missing_text a ++ codes ",\"sources\":"
-    ++ sources_text all a reaching ++ codes ",\"status\":0," ++ to_text a ++ codes "}\n"
+    ++ sources_text all a reaching ++ status_text kind ++ codes "," ++ to_text a ++ codes "}\n"
 
 ---- `graph`
 

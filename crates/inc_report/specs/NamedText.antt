@@ -32,6 +32,7 @@ use Rattle.inc_report.specs.declared.named.Asked.TheVariants.{Why, Who, Cut}
 use Rattle.inc_report.specs.declared.named.Format.{Format}
 use Rattle.inc_report.specs.declared.named.Format.TheVariants.{Gcc, Json, Dot}
 use Rattle.inc_report.specs.declared.named.NamedForm.{NamedForm}
+use Rattle.inc_report.specs.declared.outcome.EndKind.{EndKind}
 use Rattle.inc_report.specs.declared.outcome.EndKind.TheVariants.{Refused}
 use Rattle.inc_report.specs.declared.subjects.Subject.{Subject}
 
@@ -45,13 +46,13 @@ answer_document all costed most layout g Edges = graph_document layout g
 answer_document all costed most layout g (Removed set chains) = cut_document all costed most layout g set chains
 answer_document all costed most layout g (FixedChain chain) = fixed_document layout g chain
 
--- as an object
-abbrev pub answer_json : (all : Bool) → About → Answer → List ℕ
-answer_json all a (Chains shortest chains) = why_json a shortest chains
-answer_json all a (Sources reaching chains) = who_json all a reaching chains
-answer_json all a Edges = graph_json a
-answer_json all a (Removed set chains) = cut_json a set chains
-answer_json all a (FixedChain chain) = fixed_json a chain
+-- as an object, of a call that ends so
+abbrev pub answer_json : EndKind → (all : Bool) → About → Answer → List ℕ
+answer_json kind all a (Chains shortest chains) = why_json kind a shortest chains
+answer_json kind all a (Sources reaching chains) = who_json kind all a reaching chains
+answer_json kind all a Edges = graph_json a
+answer_json kind all a (Removed set chains) = cut_json a set chains
+answer_json kind all a (FixedChain chain) = fixed_json a chain
 
 abbrev pub answer_lines : (all costed : Bool) → (most : Option ℕ) → About → Answer → List ℕ
 answer_lines all costed most a answer =
@@ -71,7 +72,11 @@ answer_dot amounts a answer = dot_text a.layout a.graph (answer_drawn amounts an
 
 abbrev pub answer_text : NamedForm → (costed : Bool) → (amounts : List ℕ) → About → Answer → List ℕ
 answer_text form costed amounts a answer =
-    elim form.format [ Gcc ↦ answer_lines form.all costed form.most a answer | Json ↦ answer_json form.all a answer | Dot ↦ answer_dot amounts a answer ]
+    elim form.format [
+      | Gcc ↦ answer_lines form.all costed form.most a answer
+      | Json ↦ answer_json (end_kind form.fails answer) form.all a answer
+      | Dot ↦ answer_dot amounts a answer
+    ]
 
 -- a graph whose directives are those of a listing
 abbrev pub about : Language → Listing → Layout → Graph → About
@@ -80,7 +85,7 @@ about language listing layout g = record { layout = layout; graph = g; kind = ki
 -- it is printed so, and the call ends so
 abbrev pub printed_answer : NamedForm → (costed : Bool) → (amounts : List ℕ) → About → Answer → Printed
 printed_answer form costed amounts a answer =
-    record { text = answer_text form costed amounts a answer; end = end_of (notes_of a.layout a.graph answer) (end_kind answer) }
+    record { text = answer_text form costed amounts a answer; end = end_of (notes_of a.layout a.graph answer) (end_kind form.fails answer) }
 
 ---- a refusal in each format
 

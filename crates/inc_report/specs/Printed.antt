@@ -1,5 +1,5 @@
 -- What a call prints, and how it ends.
-use Rattle.std.specs.Prelude.{ℕ, List, []}
+use Rattle.std.specs.Prelude.{ℕ, Bool, true, false, List, []}
 use Rattle.inc_report.specs.declared.outcome.End.{End}
 use Rattle.inc_report.specs.declared.outcome.EndKind.{EndKind}
 use Rattle.inc_report.specs.declared.outcome.EndKind.TheVariants.{Answered, Negative, Refused}
@@ -16,6 +16,11 @@ end_of notes kind = record { kind = kind; notes = notes; rules = []; endings = [
 -- the same with these texts: rules for make, how sources ended, and why those stopped that did
 abbrev pub with_texts : (rules endings stops : List ℕ) → End → End
 with_texts rules endings stops e = record { kind = e.kind; notes = e.notes; rules = rules; endings = endings; stops = stops }
+
+-- how a call ends with the answer that a header is reached: that one is negative where it is asked to fail
+abbrev pub reached_kind : (fails : Bool) → EndKind
+reached_kind true = Negative
+reached_kind false = Answered
 
 -- an answer with notes
 abbrev pub answered_of : (notes : List ℕ) → List ℕ → Printed

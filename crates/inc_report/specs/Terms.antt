@@ -2,7 +2,7 @@
 use Rattle.std.specs.Prelude.{ℕ, Bool, List, Option, filter_map, option_map}
 use Rattle.inc_text.specs.declared.languages.Language.{Language}
 use Rattle.inc_lookup.specs.declared.projects.DirectiveId.{DirectiveId}
-use Rattle.inc_lookup.specs.Projects.{Layout, place_of}
+use Rattle.inc_lookup.specs.Projects.{Layout, SearchPath, place_of}
 use Rattle.inc_graph.specs.Marks.{Mark, Cost}
 use Rattle.inc_graph.specs.Settings.{Setting, setting_of, with_paths}
 use Rattle.inc_pp.specs.Settings.{Settings}
@@ -20,7 +20,7 @@ pub record Question : Type 0 where
   -- names that no build defines on its command line
   pub undefined : List (List ℕ)
   -- the include paths beside the project's own
-  pub others : List (List (List ℕ))
+  pub others : List SearchPath
   -- for each file of the project the numbers of the include paths with which it is read as a source: 0 is the project's own, and 1 the first
   -- of the others. A file that has none, and one past the end, is read with each
   pub read_with : List (List ℕ)

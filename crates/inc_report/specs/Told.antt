@@ -7,8 +7,8 @@ use Rattle.inc_graph.specs.IncludeGraph.{Graph}
 use Rattle.inc_graph.specs.Reaching.{AreReaching, Reaching}
 use Rattle.inc_report.specs.MissingNotes.{empty_notes}
 use Rattle.inc_report.specs.Printed.{Printed, end_of}
-use Rattle.inc_report.specs.WhoText.{who_notes}
-use Rattle.inc_report.specs.WhyText.{why_notes}
+use Rattle.inc_report.specs.WhoText.{who_kind, who_notes}
+use Rattle.inc_report.specs.WhyText.{why_kind, why_notes}
 use Rattle.inc_report.specs.declared.named.Asked.{Asked}
 use Rattle.inc_report.specs.declared.named.Asked.TheVariants as asked
 use Rattle.inc_report.specs.declared.subjects.Told as declared
@@ -36,10 +36,13 @@ IsAnswerOf asked.Cut g amounts (Removed set chains) = IsCut g (fixed_by amounts)
 IsAnswerOf asked.Cut g amounts (FixedChain chain) = IsFixedChain g (fixed_by amounts) chain
 IsAnswerOf _ g amounts _ = ⊥
 
--- the call ends so
-abbrev pub end_kind : Answer → EndKind
-end_kind (FixedChain chain) = Negative
-end_kind _ = Answered
+-- the call ends so: where it is asked to fail, the answer that a header is reached is negative
+abbrev pub end_kind : (fails : Bool) → Answer → EndKind
+end_kind fails (Chains shortest chains) = why_kind fails shortest
+end_kind fails (Sources reaching chains) = who_kind fails reaching
+end_kind fails Edges = Answered
+end_kind fails (Removed set chains) = Answered
+end_kind fails (FixedChain chain) = Negative
 
 -- what is noted beside it: of headers that are not found
 abbrev pub notes_of : Layout → Graph → Answer → List ℕ

@@ -11,9 +11,11 @@ use Rattle.inc_report.specs.Bounds.{first_of, left_out}
 use Rattle.inc_report.specs.MarkTexts.{list_text, more_text}
 use Rattle.inc_report.specs.Numbers.{count_text, directive_text}
 use Rattle.inc_report.specs.MissingNotes.{unreached_notes}
-use Rattle.inc_report.specs.Printed.{Printed, answered_of}
+use Rattle.inc_report.specs.Printed.{Printed, end_of, reached_kind}
 use Rattle.inc_report.specs.Questions.{Answer, IsAnswer, IsAnswerBy}
 use Rattle.inc_report.specs.WhyText.{ways_text}
+use Rattle.inc_report.specs.declared.outcome.EndKind.{EndKind}
+use Rattle.inc_report.specs.declared.outcome.EndKind.TheVariants.{Answered}
 
 -- the chain, where chains are asked for
 abbrev pub chain_if : (with_chains : Bool) → Layout → Graph → List ℕ → List ℕ
@@ -38,16 +40,26 @@ abbrev pub who_notes : Layout → Graph → List Reaching → List ℕ
 who_notes layout g [] = unreached_notes layout g.missing
 who_notes layout g (r ∷ rs) = []
 
+-- the call ends so
+abbrev pub who_kind : (fails : Bool) → List Reaching → EndKind
+who_kind fails [] = Answered
+who_kind fails (r ∷ rs) = reached_kind fails
+
+-- with this text, and so
+abbrev pub who_printed : (with_chains fails : Bool) → (most : Option ℕ) → Layout → Graph → List Reaching → List (List ℕ) → Printed
+who_printed with_chains fails most layout g reaching chains =
+    record { text = who_text with_chains most layout g reaching chains; end = end_of (who_notes layout g reaching) (who_kind fails reaching) }
+
 -- what `who` prints of a graph
-abbrev pub IsWhoOf : (with_chains : Bool) → (most : Option ℕ) → Answer
-IsWhoOf with_chains most layout g p =
+abbrev pub IsWhoOf : (with_chains fails : Bool) → (most : Option ℕ) → Answer
+IsWhoOf with_chains fails most layout g p =
     (reaching : List Reaching) × (chains : List (List ℕ)) × AreReaching g g.sources reaching × AreChainsByLast g 0 chains
-    × (p ≡ answered_of (who_notes layout g reaching) (who_text with_chains most layout g reaching chains))
+    × (p ≡ who_printed with_chains fails most layout g reaching chains)
 
 -- what `who` prints
-abbrev pub IsWho : (with_chains : Bool) → (most : Option ℕ) → Question → Listing → Printed → Type 0
-IsWho with_chains most q listing p = IsAnswer (IsWhoOf with_chains most) q listing p
+abbrev pub IsWho : (with_chains fails : Bool) → (most : Option ℕ) → Question → Listing → Printed → Type 0
+IsWho with_chains fails most q listing p = IsAnswer (IsWhoOf with_chains fails most) q listing p
 
 -- and which files are read for that
-abbrev pub IsWhoBy : (with_chains : Bool) → (most : Option ℕ) → Question → Printed → List Given → Listing → Type 0
-IsWhoBy with_chains most q p given listing = IsAnswerBy (IsWhoOf with_chains most) q p given listing
+abbrev pub IsWhoBy : (with_chains fails : Bool) → (most : Option ℕ) → Question → Printed → List Given → Listing → Type 0
+IsWhoBy with_chains fails most q p given listing = IsAnswerBy (IsWhoOf with_chains fails most) q p given listing

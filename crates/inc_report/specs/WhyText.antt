@@ -1,5 +1,5 @@
 -- The text that `why` prints: how a header reaches a source.
-use Rattle.std.specs.Prelude.{◌≡◌, ℕ, List, [], ◌++◌, Option, Some, None, length, map, option_map, codes}
+use Rattle.std.specs.Prelude.{◌≡◌, ℕ, Bool, List, [], ◌++◌, Option, Some, None, length, map, option_map, codes}
 use Rattle.inc_report.specs.Terms.{Question}
 use Rattle.inc_lookup.specs.Given.{Given}
 use Rattle.inc_lookup.specs.Projects.{Layout, Listing}
@@ -11,8 +11,10 @@ use Rattle.inc_check.specs.Texts.{line_text}
 use Rattle.inc_report.specs.MarkTexts.{missing_mark, list_text, chains_text, blockers_text}
 use Rattle.inc_report.specs.Numbers.{count_text}
 use Rattle.inc_report.specs.MissingNotes.{unreached_notes}
-use Rattle.inc_report.specs.Printed.{Printed, answered_of}
+use Rattle.inc_report.specs.Printed.{Printed, end_of, reached_kind}
 use Rattle.inc_report.specs.Questions.{Answer, IsAnswer, IsAnswerBy}
+use Rattle.inc_report.specs.declared.outcome.EndKind.{EndKind}
+use Rattle.inc_report.specs.declared.outcome.EndKind.TheVariants.{Answered}
 
 abbrev pub shortest_text : Option (List Mark) → List ℕ
 shortest_text None = line_text (codes "shortest none")
@@ -37,16 +39,26 @@ abbrev pub why_notes : Layout → Graph → Option (List ℕ) → List ℕ
 why_notes layout g None = unreached_notes layout g.missing
 why_notes layout g (Some chain) = []
 
+-- the call ends so
+abbrev pub why_kind : (fails : Bool) → Option (List ℕ) → EndKind
+why_kind fails None = Answered
+why_kind fails (Some chain) = reached_kind fails
+
+-- with this text, and so
+abbrev pub why_printed : (fails : Bool) → (most : Option ℕ) → Layout → Graph → Option (List ℕ) → List (List ℕ) → Printed
+why_printed fails most layout g shortest chains =
+    record { text = why_text most layout g shortest chains; end = end_of (why_notes layout g shortest) (why_kind fails shortest) }
+
 -- what `why` prints of a graph
-abbrev pub IsWhyOf : (most : Option ℕ) → Answer
-IsWhyOf most layout g p =
+abbrev pub IsWhyOf : (fails : Bool) → (most : Option ℕ) → Answer
+IsWhyOf fails most layout g p =
     (shortest : Option (List ℕ)) × (chains : List (List ℕ)) × IsShortestOrNone g shortest × AreChainsByLast g 0 chains
-    × (p ≡ answered_of (why_notes layout g shortest) (why_text most layout g shortest chains))
+    × (p ≡ why_printed fails most layout g shortest chains)
 
 -- what `why` prints
-abbrev pub IsWhy : (most : Option ℕ) → Question → Listing → Printed → Type 0
-IsWhy most q listing p = IsAnswer (IsWhyOf most) q listing p
+abbrev pub IsWhy : (fails : Bool) → (most : Option ℕ) → Question → Listing → Printed → Type 0
+IsWhy fails most q listing p = IsAnswer (IsWhyOf fails most) q listing p
 
 -- and which files are read for that
-abbrev pub IsWhyBy : (most : Option ℕ) → Question → Printed → List Given → Listing → Type 0
-IsWhyBy most q p given listing = IsAnswerBy (IsWhyOf most) q p given listing
+abbrev pub IsWhyBy : (fails : Bool) → (most : Option ℕ) → Question → Printed → List Given → Listing → Type 0
+IsWhyBy fails most q p given listing = IsAnswerBy (IsWhyOf fails most) q p given listing

@@ -1,29 +1,31 @@
 //! What `why`, `who`, `graph` and `cut` answer, as objects of JSON.
 ghost use Rattle.std.specs.Prelude.{◌≡◌, ◌≤◌, ◌∷◌, [], length, option_map, IfOk, OnOk};
 ghost use Rattle.inc_graph.specs.Cuts as cuts;
-ghost use Rattle.inc_report.specs.JsonAnswers.{about_of, about_subject, cut_json, fixed_json, found_text, from_text, front_text, graph_json, puts, sets_ends, to_text, who_json, why_ends, why_json};
+ghost use Rattle.inc_report.specs.JsonAnswers.{about_of, about_subject, cut_json, fixed_json, found_text, from_text, front_text, graph_json, puts, sets_ends, to_text, who_json, status_text, why_ends, why_json};
 
 use crate::json_parts::JsonText;
+use crate::outcome::EndKind;
 use crate::subjects::Subject;
 use inc_cut::CountedChains;
 use inc_graph::{EdgeId, ShortestChains, SourceChains};
 use inc_lookup::FileId;
 use std::alloc::{AllocError, Global};
 
-/// How a header reaches a source, by a shortest chain if there is one and by the chains that are left.
+/// How a header reaches a source, by a shortest chain if there is one and by the chains that are left, of a call that ends so.
 pub(crate) fn why_json(
     alloc: Global,
     subject: Subject<'_>,
+    kind: EndKind,
     shortest: Option<&[EdgeId]>,
     chains: &mut ShortestChains<'_>,
 ) -> Result<Vec<u8>, AllocError>
-    ensures { IfOk result (λ text. text.items ≡ why_json (about_subject subject.entry)
+    ensures { IfOk result (λ text. text.items ≡ why_json kind (about_subject subject.entry)
         (option_map (λ c. c.now) shortest.entry) chains.old.left) }
 {
     let mut json = JsonText::new(alloc, subject)?;
     put_front(&mut json, chains, b"why")?;
     let (sources, headers) = (subject.graph.sources(), subject.graph.headers());
-    put_ends(&mut json, sources, headers, shortest)?;
+    put_ends(&mut json, sources, headers, shortest, kind)?;
     Ok(json.into_text())
 }
 
@@ -52,13 +54,14 @@ fn put_ends(
     sources: &[FileId],
     headers: &[FileId],
     shortest: Option<&[EdgeId]>,
+    kind: EndKind,
 ) -> Result<(), AllocError>
-    ensures { OnOk result (json.new ≡ puts json.old (why_ends (about_of json.old) sources.now headers.now
+    ensures { OnOk result (json.new ≡ puts json.old (why_ends kind (about_of json.old) sources.now headers.now
         (option_map (λ c. c.now) shortest.entry))) }
 {
     match sources {
-        [source] => put_ends_of(json, *source, headers, shortest),
-        _ => put_sets(json, shortest),
+        [source] => put_ends_of(json, *source, headers, shortest, kind),
+        _ => put_sets(json, shortest, kind),
     }
 }
 
@@ -68,13 +71,14 @@ fn put_ends_of(
     source: FileId,
     headers: &[FileId],
     shortest: Option<&[EdgeId]>,
+    kind: EndKind,
 ) -> Result<(), AllocError>
-    ensures { OnOk result (json.new ≡ puts json.old (why_ends (about_of json.old) (source ∷ []) headers.now
+    ensures { OnOk result (json.new ≡ puts json.old (why_ends kind (about_of json.old) (source ∷ []) headers.now
         (option_map (λ c. c.now) shortest.entry))) }
 {
     match headers {
-        [header] => put_pair(json, source, *header, shortest),
-        _ => put_sets(json, shortest),
+        [header] => put_pair(json, source, *header, shortest, kind),
+        _ => put_sets(json, shortest, kind),
     }
 }
 
@@ -84,27 +88,45 @@ fn put_pair(
     source: FileId,
     header: FileId,
     shortest: Option<&[EdgeId]>,
+    kind: EndKind,
 ) -> Result<(), AllocError>
-    ensures { OnOk result (json.new ≡ puts json.old (why_ends (about_of json.old) (source ∷ []) (header ∷ [])
+    ensures { OnOk result (json.new ≡ puts json.old (why_ends kind (about_of json.old) (source ∷ []) (header ∷ [])
         (option_map (λ c. c.now) shortest.entry))) }
 {
     json.put_file(b"header", header)?;
     put_found(json, shortest)?;
     json.put(b",")?;
     json.put_file(b"source", source)?;
-    json.put(b",\"status\":0}\n")
+    json.put(status_text(kind))?;
+    json.put(b"}\n")
 }
 
 /// The same where it has several, or none.
-fn put_sets(json: &mut JsonText<'_>, shortest: Option<&[EdgeId]>) -> Result<(), AllocError>
-    ensures { OnOk result (json.new ≡ puts json.old (sets_ends (about_of json.old)
+fn put_sets(
+    json: &mut JsonText<'_>,
+    shortest: Option<&[EdgeId]>,
+    kind: EndKind,
+) -> Result<(), AllocError>
+    ensures { OnOk result (json.new ≡ puts json.old (sets_ends kind (about_of json.old)
         (option_map (λ c. c.now) shortest.entry))) }
 {
     put_from(json)?;
     put_found(json, shortest)?;
-    json.put(b",\"status\":0,")?;
+    json.put(status_text(kind))?;
+    json.put(b",")?;
     put_to(json)?;
     json.put(b"}\n")
+}
+
+/// The status of a call that ends so, under its key.
+fn status_text(kind: EndKind) -> &'static [u8]
+    ensures { result.now ≡ status_text kind }
+{
+    match kind {
+        EndKind::Answered => b",\"status\":0",
+        EndKind::Negative => b",\"status\":1",
+        EndKind::Refused => b",\"status\":4",
+    }
 }
 
 /// Adds the names of headers that are not found, and a shortest chain if there is one.
@@ -136,15 +158,16 @@ fn put_to(json: &mut JsonText<'_>) -> Result<(), AllocError>
     json.put_files(graph.headers())
 }
 
-/// Which sources reach a header: those that are left, and the chains that are left.
+/// Which sources reach a header: those that are left, and the chains that are left, of a call that ends so.
 pub(crate) fn who_json(
     alloc: Global,
     subject: Subject<'_>,
+    kind: EndKind,
     reaching: &mut SourceChains<'_>,
     chains: &mut ShortestChains<'_>,
     all: bool,
 ) -> Result<Vec<u8>, AllocError>
-    ensures { IfOk result (λ text. text.items ≡ who_json all (about_subject subject.entry)
+    ensures { IfOk result (λ text. text.items ≡ who_json kind all (about_subject subject.entry)
         reaching.old.left chains.old.left) }
 {
     let mut json = JsonText::new(alloc, subject)?;
@@ -154,7 +177,8 @@ pub(crate) fn who_json(
     json.put_missing()?;
     json.put(b",\"sources\":")?;
     json.put_sources(reaching, all)?;
-    json.put(b",\"status\":0,")?;
+    json.put(status_text(kind))?;
+    json.put(b",")?;
     put_to(&mut json)?;
     json.put(b"}\n")?;
     Ok(json.into_text())

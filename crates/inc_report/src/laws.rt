@@ -13,14 +13,14 @@ ghost use Rattle.inc_report.specs.WhyText.{IsWhy};
 /// Two answers to how a header reaches a source are the same, in their text and in how the call ends. So the clauses of `run_why`
 /// leave it one text.
 pub fn answers_to_why_are_one()
-    ensures { (most : Option ℕ) (q : Question) (listing : Listing) (a b : Printed) →
-        IsWhy most q listing a → IsWhy most q listing b → a ≡ b }
+    ensures { (fails : Bool) (most : Option ℕ) (q : Question) (listing : Listing) (a b : Printed) →
+        IsWhy fails most q listing a → IsWhy fails most q listing b → a ≡ b }
 {}
 
 /// Two answers to which sources reach a header are the same, with chains or without.
 pub fn answers_to_who_are_one()
-    ensures { (with_chains : Bool) (most : Option ℕ) (q : Question) (listing : Listing) (a b : Printed) →
-        IsWho with_chains most q listing a → IsWho with_chains most q listing b → a ≡ b }
+    ensures { (with_chains fails : Bool) (most : Option ℕ) (q : Question) (listing : Listing) (a b : Printed) →
+        IsWho with_chains fails most q listing a → IsWho with_chains fails most q listing b → a ≡ b }
 {}
 
 /// Two answers to which edges the sources reach are the same.

@@ -21,7 +21,7 @@ ghost use Rattle.inc_report.specs.Questions.{FailsAt, IsStopped, IsWithin, unrea
 ghost use Rattle.inc_report.specs.Refusals.{Blocked};
 ghost use Rattle.inc_report.specs.Told.{Chains, Edges, FixedChain, Removed, Sources, chain_found, told_printed};
 ghost use Rattle.inc_report.specs.Views.{seen_refusal};
-ghost use Rattle.inc_report.specs.WhyText.{why_notes};
+ghost use Rattle.inc_report.specs.WhyText.{why_kind, why_notes};
 ghost use Rattle.inc_report.specs.Writing.{Prints, Writes, is_of_certificate, unread_of};
 
 use crate::asked::{Limits, Question};
@@ -36,12 +36,12 @@ use crate::json_refusals::{blocked_json, refusal_json};
 use crate::kept_sources::KeptSources;
 use crate::limits::{Hindrance, amounts_of, refusal_of, refuse_hindrance};
 use crate::missing_notes::{Notes, empty_notes, unreached_notes};
-use crate::outcome::{End, EndKind, RunFault};
+use crate::outcome::{End, EndKind, RunFault, reached_kind};
 use crate::output::Output;
 use crate::questions::{NoGraph, find_graph, refusal_of_question, refuse_question};
 use crate::refusals::Refusal;
 use crate::subjects::{Subject, Told};
-use crate::who::notes_of;
+use crate::who::{kind_of, notes_of};
 use crate::who_document::who_document;
 use crate::why_document::{reached_document, unreached_document};
 use inc_cut::{CountedChains, CutAnswer};
@@ -105,6 +105,8 @@ pub struct NamedForm {
     pub format: Format,
     /// Whether each chain is shown whole.
     pub all: bool,
+    /// Whether the answer that a header is reached is negative.
+    pub fails: bool,
     /// How many chains, and how many sources, stand in lines at most; all where no number is given. A cut and a shortest chain are whole.
     pub most: Option<usize>,
 }
@@ -257,7 +259,7 @@ fn explain(alloc: Global, subject: Subject<'_>, form: NamedForm) -> Result<Told,
     let notes = notes_if(alloc, subject, found)?;
     Ok(Told {
         text: why_text(alloc, subject, found, &mut chains, form)?,
-        kind: EndKind::Answered,
+        kind: kind_if(found, form.fails),
         notes,
     })
 }
@@ -272,6 +274,16 @@ fn notes_if(alloc: Global, subject: Subject<'_>, found: bool) -> Result<Notes, A
         return Ok(Notes::none());
     }
     unreached_notes(alloc, subject.project, subject.graph)
+}
+
+/// How the call ends with the answer that a chain is found, or that none is.
+fn kind_if(found: bool, fails: bool) -> EndKind
+    ensures { (chain : List ℕ) → result ≡ why_kind fails (chain_found found chain) }
+{
+    if found {
+        return reached_kind(fails);
+    }
+    EndKind::Answered
 }
 
 /// The text of the chain that is made, if one is found, and of the chains that are left.
@@ -291,7 +303,7 @@ fn why_text(
 {
     match form.format {
         Format::Gcc => why_lines(alloc, subject, found, chains, form),
-        Format::Json => why_object(alloc, subject, found, chains),
+        Format::Json => why_object(alloc, subject, found, chains, form.fails),
         Format::Dot => chains_dot(alloc, subject, chains),
     }
 }
@@ -326,15 +338,18 @@ fn why_object(
     subject: Subject<'_>,
     found: bool,
     chains: &mut ShortestChains<'_>,
+    fails: bool,
 ) -> Result<Vec<u8>, AllocError>
-    ensures { IfOk result (λ text. text.items ≡ why_json (about_subject subject.entry)
+    ensures { IfOk result (λ text. text.items
+        ≡ why_json (why_kind fails (chain_found found chains.old.chain)) (about_subject subject.entry)
         (chain_found found chains.old.chain) chains.old.left) }
 {
     if !found {
-        return why_json(alloc, subject, None, chains);
+        return why_json(alloc, subject, EndKind::Answered, None, chains);
     }
     let shortest = Vec::from_slice(alloc, chains.edges())?;
-    why_json(alloc, subject, Some(&shortest), chains)
+    let kind = reached_kind(fails);
+    why_json(alloc, subject, kind, Some(&shortest), chains)
 }
 
 /// Which sources reach a header.
@@ -346,9 +361,10 @@ fn tell(alloc: Global, subject: Subject<'_>, form: NamedForm) -> Result<Told, Al
     let mut reaching = SourceChains::new(alloc, subject.graph)?;
     let mut chains = ShortestChains::new(alloc, subject.graph)?;
     let notes = notes_of(alloc, subject.project, subject.graph, &reaching)?;
+    let kind = kind_of(&reaching, form.fails);
     Ok(Told {
         text: who_text(alloc, subject, &mut reaching, &mut chains, form)?,
-        kind: EndKind::Answered,
+        kind,
         notes,
     })
 }
@@ -375,7 +391,10 @@ fn who_text(
             let document = who_document(alloc, project, graph, reaching, chains, all, most)?;
             lines_of(alloc, subject, &document)
         }
-        Format::Json => who_json(alloc, subject, reaching, chains, all),
+        Format::Json => {
+            let kind = kind_of(reaching, form.fails);
+            who_json(alloc, subject, kind, reaching, chains, all)
+        }
         Format::Dot => chains_dot(alloc, subject, chains),
     }
 }

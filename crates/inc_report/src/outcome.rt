@@ -1,6 +1,6 @@
 //! How a call that prints ends.
 ghost use Rattle.std.specs.Prelude.{◌≡◌, []};
-ghost use Rattle.inc_report.specs.Printed.{end_of, with_texts};
+ghost use Rattle.inc_report.specs.Printed.{end_of, reached_kind, with_texts};
 ghost use Rattle.inc_report.specs.declared.outcome.RunFault.TheVariants.{Write, NoMemory};
 
 use crate::file_texts::FileText;
@@ -35,6 +35,17 @@ pub enum EndKind {
     Negative,
     /// With a refusal, which is written as text too.
     Refused,
+}
+
+/// How a call ends with the answer that a header is reached, which is negative where it is asked to fail.
+pub(crate) fn reached_kind(fails: bool) -> EndKind
+    ensures { result ≡ reached_kind fails }
+{
+    if fails {
+        EndKind::Negative
+    } else {
+        EndKind::Answered
+    }
 }
 
 /// How a call ends beside whose answer nothing is noted.

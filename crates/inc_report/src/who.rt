@@ -5,7 +5,7 @@ ghost use Rattle.inc_lookup.specs.Given.{HoldsOfGiven};
 ghost use Rattle.inc_graph.specs.Reaching.{Reaching};
 ghost use Rattle.inc_report.specs.Questions.{FailsAt};
 ghost use Rattle.inc_report.specs.Sending.{Sends};
-ghost use Rattle.inc_report.specs.WhoText.{chain_if, reaching_text, sources_text, who_notes, IsWhoOf, IsWhoBy};
+ghost use Rattle.inc_report.specs.WhoText.{chain_if, reaching_text, sources_text, who_kind, who_notes, IsWhoOf, IsWhoBy};
 ghost use Rattle.inc_report.specs.Writing.{Prints, Writes, is_of_certificate, unread_of};
 
 use crate::asked::Question;
@@ -13,7 +13,7 @@ use crate::bounds::shown_count;
 use crate::edges::send_list;
 use crate::lines::{send_count_line, send_directive, send_more};
 use crate::missing_notes::{Notes, unreached_notes};
-use crate::outcome::{End, EndKind, RunFault, noted};
+use crate::outcome::{End, EndKind, RunFault, noted, reached_kind};
 use crate::output::Output;
 use crate::questions::{find_graph, refuse_question};
 use crate::why::send_ways;
@@ -23,7 +23,8 @@ use inc_text::ByteSink;
 use std::alloc::{AllocError, Global};
 
 /// Writes which sources reach a header, each with the number of directives of its shortest chain, and with this chain where chains are
-/// asked for; then what [`run_why`](crate::run_why) writes after its shortest chain. Of sources and of chains at most `most` are written. Files are read when they are reached, each once, the
+/// asked for; then what [`run_why`](crate::run_why) writes after its shortest chain. Of sources and of chains at most `most` are written.
+/// The answer is negative where some source reaches a header and it is asked to fail. Files are read when they are reached, each once, the
 /// headers never. All memory is taken before the first byte is written.
 pub fn run_who<S: Sources, W: ByteSink>(
     alloc: Global,
@@ -31,12 +32,13 @@ pub fn run_who<S: Sources, W: ByteSink>(
     sources: &mut S,
     question: &Question<'_>,
     with_chains: bool,
+    fails: bool,
     most: Option<usize>,
     w: W,
 ) -> (Result<End, RunFault>, W)
     requires { W.has_failed w ≡ false }
     ensures written { Writes (λ p. HoldsOfGiven S.gives sources.old sources.new project.now
-        (IsWhoBy with_chains most question.now p))
+        (IsWhoBy with_chains fails most question.now p))
         (W.written w) (W.written result.1) (W.has_failed result.1) result.0 }
     ensures unread { IfErr result.0 (λ fault. IfSome (unread_of fault)
         (FailsAt S.gives sources.old sources.new project.now question.now)) }
@@ -52,6 +54,7 @@ pub fn run_who<S: Sources, W: ByteSink>(
         sources,
         question,
         with_chains,
+        fails,
         most,
         &mut out,
     );
@@ -65,17 +68,18 @@ fn tell<S: Sources, W: ByteSink>(
     sources: &mut S,
     question: &Question<'_>,
     with_chains: bool,
+    fails: bool,
     most: Option<usize>,
     out: &mut Output<W>,
 ) -> Result<End, RunFault>
     ensures sent { Prints (λ p. HoldsOfGiven S.gives sources.old sources.new project.now
-        (IsWhoBy with_chains most question.now p)) out.old out.new result }
+        (IsWhoBy with_chains fails most question.now p)) out.old out.new result }
     ensures unread { IfErr result (λ fault. IfSome (unread_of fault)
         (FailsAt S.gives sources.old sources.new project.now question.now)) }
     ensures certificate { IfErr result (λ f. is_of_certificate f ≡ false) }
 {
     match find_graph(alloc, project, sources, question) {
-        Ok(graph) => tell_graph(alloc, project, &graph, with_chains, most, out),
+        Ok(graph) => tell_graph(alloc, project, &graph, with_chains, fails, most, out),
         Err(cause) => refuse_question(alloc, project, question, cause, out),
     }
 }
@@ -86,20 +90,22 @@ fn tell_graph<W: ByteSink>(
     project: &Project<'_>,
     graph: &Graph,
     with_chains: bool,
+    fails: bool,
     most: Option<usize>,
     out: &mut Output<W>,
 ) -> Result<End, RunFault>
     requires { graph.now.files ≡ length project.now.paths }
-    ensures sent { Prints (IsWhoOf with_chains most project.now graph.now) out.old out.new result }
+    ensures sent { Prints (IsWhoOf with_chains fails most project.now graph.now) out.old out.new result }
     ensures read { IfErr result (λ f. unread_of f ≡ None) }
     ensures certificate { IfErr result (λ f. is_of_certificate f ≡ false) }
 {
     let mut reaching = SourceChains::new(alloc, graph)?;
     let mut chains = ShortestChains::new(alloc, graph)?;
     let notes = notes_of(alloc, project, graph, &reaching)?;
+    let kind = kind_of(&reaching, fails);
     send_reaching(out, project, graph, with_chains, most, &mut reaching);
     send_ways(out, project, graph, &mut chains, most);
-    Ok(noted(EndKind::Answered, notes))
+    Ok(noted(kind, notes))
 }
 
 /// The notes beside the answer that these sources reach a header: there are some where none does.
@@ -116,6 +122,17 @@ pub(crate) fn notes_of(
         return unreached_notes(alloc, project, graph);
     }
     Ok(Notes::none())
+}
+
+/// How the call ends with the answer that these sources reach a header.
+pub(crate) fn kind_of(reaching: &SourceChains<'_>, fails: bool) -> EndKind
+    ensures { result ≡ who_kind fails reaching.now.left }
+{
+    let none = reaching.count() == 0;
+    if none {
+        return EndKind::Answered;
+    }
+    reached_kind(fails)
 }
 
 /// Sends how many sources are left, and at most so many of them.

@@ -16,7 +16,7 @@ use crate::bounds::shown_count;
 use crate::edges::{send_blockers, send_list};
 use crate::lines::{send_count_line, send_directive, send_line, send_more};
 use crate::missing_notes::unreached_notes;
-use crate::outcome::{End, EndKind, RunFault, noted, plain};
+use crate::outcome::{End, EndKind, RunFault, noted, plain, reached_kind};
 use crate::output::Output;
 use crate::questions::{find_graph, refuse_question};
 use inc_graph::{Graph, MissingList, ShortestChains};
@@ -26,18 +26,20 @@ use std::alloc::Global;
 
 /// Writes how headers reach sources: a shortest chain of include directives from a source to a header, for each directive that names a
 /// header a shortest chain that it ends, of which at most `most` are written, the directives whose header is not found, and those of which
-/// nothing can be said. Files are read when they are reached, each once, the headers never. All memory is taken before the first byte is written.
+/// nothing can be said. The answer is negative where it has a shortest chain and is asked to fail. Files are read when they are reached,
+/// each once, the headers never. All memory is taken before the first byte is written.
 pub fn run_why<S: Sources, W: ByteSink>(
     alloc: Global,
     project: &Project<'_>,
     sources: &mut S,
     question: &Question<'_>,
+    fails: bool,
     most: Option<usize>,
     w: W,
 ) -> (Result<End, RunFault>, W)
     requires { W.has_failed w ≡ false }
     ensures written { Writes (λ p. HoldsOfGiven S.gives sources.old sources.new project.now
-        (IsWhyBy most question.now p))
+        (IsWhyBy fails most question.now p))
         (W.written w) (W.written result.1) (W.has_failed result.1) result.0 }
     ensures unread { IfErr result.0 (λ fault. IfSome (unread_of fault)
         (FailsAt S.gives sources.old sources.new project.now question.now)) }
@@ -47,7 +49,7 @@ pub fn run_why<S: Sources, W: ByteSink>(
         Ok(out) => out,
         Err(w) => return (Err(RunFault::NoMemory), w),
     };
-    let ended = explain(alloc, project, sources, question, most, &mut out);
+    let ended = explain(alloc, project, sources, question, fails, most, &mut out);
     out.finish(ended)
 }
 
@@ -57,17 +59,18 @@ fn explain<S: Sources, W: ByteSink>(
     project: &Project<'_>,
     sources: &mut S,
     question: &Question<'_>,
+    fails: bool,
     most: Option<usize>,
     out: &mut Output<W>,
 ) -> Result<End, RunFault>
     ensures sent { Prints (λ p. HoldsOfGiven S.gives sources.old sources.new project.now
-        (IsWhyBy most question.now p)) out.old out.new result }
+        (IsWhyBy fails most question.now p)) out.old out.new result }
     ensures unread { IfErr result (λ fault. IfSome (unread_of fault)
         (FailsAt S.gives sources.old sources.new project.now question.now)) }
     ensures certificate { IfErr result (λ f. is_of_certificate f ≡ false) }
 {
     match find_graph(alloc, project, sources, question) {
-        Ok(graph) => explain_graph(alloc, project, &graph, most, out),
+        Ok(graph) => explain_graph(alloc, project, &graph, fails, most, out),
         Err(cause) => refuse_question(alloc, project, question, cause, out),
     }
 }
@@ -77,18 +80,19 @@ fn explain_graph<W: ByteSink>(
     alloc: Global,
     project: &Project<'_>,
     graph: &Graph,
+    fails: bool,
     most: Option<usize>,
     out: &mut Output<W>,
 ) -> Result<End, RunFault>
     requires { graph.now.files ≡ length project.now.paths }
-    ensures sent { Prints (IsWhyOf most project.now graph.now) out.old out.new result }
+    ensures sent { Prints (IsWhyOf fails most project.now graph.now) out.old out.new result }
     ensures read { IfErr result (λ f. unread_of f ≡ None) }
     ensures certificate { IfErr result (λ f. is_of_certificate f ≡ false) }
 {
     let mut chains = ShortestChains::new(alloc, graph)?;
     if chains.find_shortest() {
         send_reached(out, project, graph, &mut chains, most);
-        return Ok(plain(EndKind::Answered));
+        return Ok(plain(reached_kind(fails)));
     }
     let notes = unreached_notes(alloc, project, graph)?;
     send_unreached(out, project, graph, &mut chains, most);

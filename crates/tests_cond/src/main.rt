@@ -39,7 +39,7 @@ fn run(rt: &HostRuntime) -> Result<(), Stop> {
 /// Adds what the lines give, in a project of one file.
 fn add_answers(alloc: Global, lines: &Lines<'_>, out: &mut Vec<u8>) -> Result<(), Stop> {
     let paths: [&[u8]; 1] = [b"-"];
-    let Ok(project) = Project::new(alloc, 0, &paths, &[]) else {
+    let Ok(project) = Project::new(alloc, 0, &paths, 0, &[]) else {
         return Err(Stop);
     };
     let Some(source) = project.at(0) else {

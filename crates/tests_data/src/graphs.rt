@@ -101,7 +101,7 @@ fn graph_of_two_paths(
     if second.index() < first.index() {
         return Err(Stop);
     }
-    let Ok(other) = IncludePath::new(alloc, 0, &[b"four", b"inc"]) else {
+    let Ok(other) = IncludePath::new(alloc, 0, 0, &[b"four", b"inc"]) else {
         return Err(Stop);
     };
     let others = [other];

@@ -49,12 +49,16 @@ fn lent(alloc: Global, paths: &[Vec<u8>]) -> Result<Vec<&[u8]>, Stop> {
     Ok(slices)
 }
 
-/// Adds what a project gives whose files and search directories are on the lines `file PATH` and `dir PATH`, or its fault.
+/// Adds what a project gives whose files are on the lines `file PATH`, and whose search directories on the lines `iquote PATH` and `dir PATH`,
+/// the former for names between `"` alone; or its fault.
 pub fn add_project(alloc: Global, example: &str, out: &mut Vec<u8>) -> Result<(), Stop> {
     let files = paths_after(alloc, example, "file")?;
-    let dirs = paths_after(alloc, example, "dir")?;
+    let mut named = paths_after(alloc, example, "iquote")?;
+    let quoted = named.len();
+    named.append(&mut paths_after(alloc, example, "dir")?)?;
     let paths = lent(alloc, &files)?;
-    match Project::new(alloc, 0, &paths, &lent(alloc, &dirs)?) {
+    let dirs = lent(alloc, &named)?;
+    match Project::new(alloc, 0, &paths, quoted, &dirs) {
         Ok(project) => add_answers(alloc, &project, example, out),
         Err(fault) => add(out, format!(in alloc; "{fault}\n")?.as_bytes()),
     }
@@ -140,7 +144,7 @@ pub fn held_file(alloc: Global, path: &[u8], bytes: Vec<u8>) -> Result<SourceFil
 
 /// The project of files with these paths, with the search directory `inc`.
 pub fn project_of<'a>(alloc: Global, paths: &'a [&'a [u8]]) -> Result<Project<'a>, Stop> {
-    match Project::new(alloc, 0, paths, &[b"inc", b"two", b"three"]) {
+    match Project::new(alloc, 0, paths, 0, &[b"inc", b"two", b"three"]) {
         Ok(project) => Ok(project),
         Err(_) => Err(Stop),
     }

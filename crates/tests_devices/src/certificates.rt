@@ -36,7 +36,7 @@ fn checked(alloc: Global, parts: Parts<'_>) -> Result<(Result<EndKind, RunFault>
     let files = files_of(alloc, "@m.c\n#include \"t.h\"\n@t.h\n")?;
     let mut held = HeldFiles { files: &files };
     let paths = held.paths(alloc)?;
-    let project = Project::new(alloc, 0, &paths, &[])?;
+    let project = Project::new(alloc, 0, &paths, 0, &[])?;
     let question = Question {
         from: &[b"m.c"],
         to: Some(&[b"t.h"]),

@@ -73,7 +73,7 @@ fn asked(
     let files = files_of(alloc, TWO_WAYS)?;
     let held = HeldFiles { files: &files };
     let paths = held.paths(alloc)?;
-    let project = Project::new(alloc, 0, &paths, &[])?;
+    let project = Project::new(alloc, 0, &paths, 0, &[])?;
     let mut sources = Noting {
         held,
         read: Vec::new(alloc),
@@ -90,7 +90,7 @@ fn asked(
         read_with: &[],
     };
     let out = Writing::new(&mut sink);
-    let (outcome, _) = run_why(alloc, &project, &mut sources, &question, None, out);
+    let (outcome, _) = run_why(alloc, &project, &mut sources, &question, false, None, out);
     Ok((ending(&outcome), sources.read, sink.taken.len()))
 }
 

@@ -93,7 +93,7 @@ fn answers(alloc: Global, row: &Row) -> Result<[Vec<u8>; 3], Fail> {
     let files = files_of(alloc, FILES)?;
     let mut held = HeldFiles { files: &files };
     let paths = held.paths(alloc)?;
-    let project = Project::new(alloc, 0, &paths, &[])?;
+    let project = Project::new(alloc, 0, &paths, 0, &[])?;
     let question = Question {
         from: row.from,
         to: Some(row.to),
@@ -114,6 +114,7 @@ fn answers(alloc: Global, row: &Row) -> Result<[Vec<u8>; 3], Fail> {
         &project,
         &mut held,
         &question,
+        false,
         None,
         Writing::new(&mut why),
     );

@@ -120,7 +120,7 @@ fn check_why(rt: &impl Abort, alloc: Global, project: &Project<'_>, files: &mut 
     for room in 0..want.text.len() {
         let mut sink = Sink::new(alloc, room, 7);
         let out = Writing::new(&mut sink);
-        let (outcome, _) = run_why(alloc, project, files, &question, None, out);
+        let (outcome, _) = run_why(alloc, project, files, &question, false, None, out);
         check_sink(rt, &sink, outcome, &want);
     }
 }
@@ -131,7 +131,7 @@ fn full_writers_of_an_answer(rt: HostRuntime) -> Result<(), Fail> {
     let files = files_of(alloc, "@m.c\n#include \"t.h\"\n@t.h\n")?;
     let mut held = HeldFiles { files: &files };
     let paths = held.paths(alloc)?;
-    let project = Project::new(alloc, 0, &paths, &[])?;
+    let project = Project::new(alloc, 0, &paths, 0, &[])?;
     check_why(&rt, alloc, &project, &mut held);
     Ok(())
 }
@@ -169,7 +169,7 @@ fn full_writers_of_blanked_files(rt: HostRuntime) -> Result<(), Fail> {
     let files = files_of(alloc, "@m.c\n#include \"t.h\"\n@t.h\n")?;
     let held = HeldFiles { files: &files };
     let paths = held.paths(alloc)?;
-    let project = Project::new(alloc, 0, &paths, &[])?;
+    let project = Project::new(alloc, 0, &paths, 0, &[])?;
     check_blank(&rt, alloc, &project, held);
     Ok(())
 }

@@ -61,7 +61,7 @@ pub fn project_of<'a>(
     paths: &'a [&'a [u8]],
     dirs: &[&[u8]],
 ) -> Result<Project<'a>, Stop> {
-    match Project::new(alloc, 0, paths, dirs) {
+    match Project::new(alloc, 0, paths, 0, dirs) {
         Ok(project) => Ok(project),
         Err(_) => Err(Stop),
     }

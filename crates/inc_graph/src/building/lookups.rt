@@ -10,7 +10,7 @@ use std::marker::Model;
 #[derive(Drop)]
 pub(crate) struct Lookup<'p> {
     project: &'p Project<'p>,
-    dirs: &'p IncludePath,
+    search: &'p IncludePath,
 }
 
 impl<'p> Model for Lookup<'p> {
@@ -18,15 +18,15 @@ impl<'p> Model for Lookup<'p> {
 
     ghost Value = { Layout };
 
-    ghost view = { λ l. record { paths = l.project.now.paths; dirs = l.dirs.now } };
+    ghost view = { λ l. record { paths = l.project.now.paths; search = l.search.now } };
 }
 
 impl<'p> Lookup<'p> {
     /// In this include path.
-    pub(crate) fn new(project: &'p Project<'p>, dirs: &'p IncludePath) -> Lookup<'p>
-        ensures { result ≡ record { paths = project.now.paths; dirs = dirs.now } }
+    pub(crate) fn new(project: &'p Project<'p>, search: &'p IncludePath) -> Lookup<'p>
+        ensures { result ≡ record { paths = project.now.paths; search = search.now } }
     {
-        Lookup { project, dirs }
+        Lookup { project, search }
     }
 
     /// How many files there are.
@@ -52,6 +52,6 @@ impl<'p> Lookup<'p> {
             (λ f. f.file < length self.now.paths)) }
     {
         self.project
-            .find_in(alloc, self.dirs, from, form, after, name)
+            .find_in(alloc, self.search, from, form, after, name)
     }
 }

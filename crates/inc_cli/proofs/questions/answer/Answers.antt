@@ -22,15 +22,15 @@ returns-in-Why-clause-printed g c Content notes =
     let new = c.run_why.new.sources in
     let layout = c.args.project.now in
     let q = c.args.question.now in
-    rw c.in-Why.is (prints gives old new layout q (λ p. HoldsOfGiven (reading gives) old new layout (IsWhyBy c.in-Why.most q p)) _ _ _
-    (λ p h. holds gives old new layout (IsWhyBy c.in-Why.most q p) h) c.run_why.ensures.written c.run_why.ensures.unread)
+    rw c.in-Why.is (prints gives old new layout q (λ p. HoldsOfGiven (reading gives) old new layout (IsWhyBy c.in-Why.fails c.in-Why.most q p)) _ _ _
+    (λ p h. holds gives old new layout (IsWhyBy c.in-Why.fails c.in-Why.most q p) h) c.run_why.ensures.written c.run_why.ensures.unread)
 returns-in-Why-clause-printed g c Promise notes =
     let gives = g.I.Inputs.gives in
     let old = c.args.files in
     let new = c.run_why.new.sources in
     let layout = c.args.project.now in
     let q = c.args.question.now in
-    rw c.in-Why.is (prints gives old new layout q (λ p. HoldsOfGiven (reading gives) old new layout (IsWhyBy c.in-Why.most q p)) _ _ _
+    rw c.in-Why.is (prints gives old new layout q (λ p. HoldsOfGiven (reading gives) old new layout (IsWhyBy c.in-Why.fails c.in-Why.most q p)) _ _ _
     (λ p h. tt) c.run_why.ensures.written c.run_why.ensures.unread)
 
 pub returns-in-Who-clause-printed : goal.returns-in-Who-clause-printed
@@ -41,8 +41,8 @@ returns-in-Who-clause-printed g c Content notes =
     let layout = c.args.project.now in
     let q = c.args.question.now in
     let chains = c.in-Who.with_chains in
-    rw c.in-Who.is (prints gives old new layout q (λ p. HoldsOfGiven (reading gives) old new layout (IsWhoBy chains c.in-Who.most q p)) _ _ _
-    (λ p h. holds gives old new layout (IsWhoBy chains c.in-Who.most q p) h) c.run_who.ensures.written c.run_who.ensures.unread)
+    rw c.in-Who.is (prints gives old new layout q (λ p. HoldsOfGiven (reading gives) old new layout (IsWhoBy chains c.in-Who.fails c.in-Who.most q p)) _ _ _
+    (λ p h. holds gives old new layout (IsWhoBy chains c.in-Who.fails c.in-Who.most q p) h) c.run_who.ensures.written c.run_who.ensures.unread)
 returns-in-Who-clause-printed g c Promise notes =
     let gives = g.I.Inputs.gives in
     let old = c.args.files in
@@ -50,7 +50,7 @@ returns-in-Who-clause-printed g c Promise notes =
     let layout = c.args.project.now in
     let q = c.args.question.now in
     let chains = c.in-Who.with_chains in
-    rw c.in-Who.is (prints gives old new layout q (λ p. HoldsOfGiven (reading gives) old new layout (IsWhoBy chains c.in-Who.most q p)) _ _ _
+    rw c.in-Who.is (prints gives old new layout q (λ p. HoldsOfGiven (reading gives) old new layout (IsWhoBy chains c.in-Who.fails c.in-Who.most q p)) _ _ _
     (λ p h. tt) c.run_who.ensures.written c.run_who.ensures.unread)
 
 pub returns-in-Graph-clause-printed : goal.returns-in-Graph-clause-printed

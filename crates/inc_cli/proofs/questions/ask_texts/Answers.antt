@@ -2,7 +2,6 @@ use Rattle.std.proofs.Common.{◌≡◌, Ok, Err, [], refl, rules, subst}
 use Rattle.std.specs.Io.KnownBytes.{Keeps}
 use Rattle.std.specs.Prelude.{unwrap_or}
 use Rattle.inc_args.specs.Views.{seen_limits, seen_question}
-use Rattle.inc_inputs.specs.IncludePath.{dir_names}
 use Rattle.inc_inputs.specs.Reports.{report_of}
 use Rattle.inc_inputs.specs.Texts.{AreCosts, listed_layout}
 use Rattle.inc_inputs.specs.Views.{added_in}
@@ -33,10 +32,10 @@ returns-in-Err-listed_project g c known not =
     let a = added_in c.args.added in
     let costs = c.in-Ok.opened.costs.items in
     let o = opened_by q t costs in
-    let e : listed_layout o.paths (dir_names o.dirs) ≡ Err (report_of c.in-Err-listed_project.failure) = search rules in
+    let e : listed_layout o.paths o.path ≡ Err (report_of c.in-Err-listed_project.failure) = search rules in
     let keeps : Keeps (g.O.ByteSink.written c.args.out) (g.O.ByteSink.written c.args.out) = search rules in
     run_judged (AreCosts (unwrap_or l.costs []) t.costs) (with_costs language command q l a t) _ _ _ _ costs c.in-Ok.ensures.costs
-    (run_came_err (listed_layout o.paths (dir_names o.dirs)) (asked_listed language command q l a t.without t.fixed o) _ _ _ _ _ e refl keeps)
+    (run_came_err (listed_layout o.paths o.path) (asked_listed language command q l a t.without t.fixed o) _ _ _ _ _ e refl keeps)
 
 pub returns : goal.returns
 returns g c known not =
@@ -49,10 +48,10 @@ returns g c known not =
     let costs = c.in-Ok.opened.costs.items in
     let o = opened_by q t costs in
     let layout = c.in-Ok-listed_project.project in
-    let e : listed_layout o.paths (dir_names o.dirs) ≡ Ok layout = search rules in
+    let e : listed_layout o.paths o.path ≡ Ok layout = search rules in
     let out = output_of (g.O.ByteSink.written c.args.out) (g.O.ByteSink.written c.ask_listed.result.1) (g.O.ByteSink.has_failed c.ask_listed.result.1) in
     let P = IsAnswered g.I.Inputs.gives (IsKnown known g.I.Inputs.gives (record { opens = g.I.Inputs.opens; left = g.I.Stream.ByteSource.left }) command) command in
-    let same = opened_made q t _ costs _ _ c.in-Ok.ensures.paths c.in-Ok.ensures.undefined c.in-Ok.ensures.dirs in
+    let same = opened_made q t _ costs _ _ c.in-Ok.ensures.paths c.in-Ok.ensures.undefined c.in-Ok.ensures.path in
     run_judged (AreCosts (unwrap_or l.costs []) t.costs) (with_costs language command q l a t) _ _ _ _ costs c.in-Ok.ensures.costs
-    (run_came (listed_layout o.paths (dir_names o.dirs)) (asked_listed language command q l a t.without t.fixed o) _ _ _ _ layout e
+    (run_came (listed_layout o.paths o.path) (asked_listed language command q l a t.without t.fixed o) _ _ _ _ layout e
     (subst (λ k. IsRun (asked_listed language command q l a t.without t.fixed k layout) P c.args.inputs out (seen_end c.ask_listed.result.0)) same (c.ask_listed.ensures known not)))

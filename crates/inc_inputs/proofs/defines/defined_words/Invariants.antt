@@ -9,7 +9,7 @@ abbrev pub invariant-loop-length : goal.invariant-loop-length
 invariant-loop-length l = record {
   within : l.at ≤ length l.text;
   lines : l.line ≤ l.at + 1;
-  words : defined_words (table_of l.predefined).language l.has_dirs l.text ≡ with_words (map (λ w. w.items) l.words.items) (words_behind (words_in (table_of l.predefined).language l.has_dirs) l.line (drop l.at l.text));
+  words : defined_words (table_of l.predefined).language l.is_compiler l.text ≡ with_words (map (λ w. w.items) l.words.items) (words_behind (words_in (table_of l.predefined).language l.is_compiler) l.line (drop l.at l.text));
 }
 
 abbrev pub decreases-loop-length : goal.decreases-loop-length

@@ -1,10 +1,8 @@
-use Rattle.std.proofs.Common.{◌≡◌, List, ℕ, ap₂, subst, sym}
+use Rattle.std.proofs.Common.{subst, sym}
 use Rattle.inc_graph.specs.Chains.{AreChainsByLast, IsShortestOrNone}
 use Rattle.inc_graph.specs.IncludeGraph.{Graph}
-use Rattle.inc_report.specs.Printed.{end_of}
 use Rattle.inc_report.specs.Told.{Chains, chain_found}
-use Rattle.inc_report.specs.declared.outcome.EndKind.TheVariants.{Answered}
-use Rattle.inc_report.proofs.NamedLemmas.{printed_as}
+use Rattle.inc_report.proofs.NamedLemmas.{printed_same}
 use Rattle.inc_report.proofs.named.explain.Goals as goal
 
 pub why_text-requires-clause-shortest : goal.why_text-requires-clause-shortest
@@ -23,5 +21,5 @@ returns c =
         subst (λ (h : Graph). IsShortestOrNone h (chain_found c.find_shortest-found.result chains.chain)) c.in_ok-chains.ensures.graph c.find_shortest-found.ensures.chain,
         subst (AreChainsByLast c.args.subject.graph.now 0) (sym c.find_shortest-found.ensures.left) c.in_ok-chains.ensures.all,
       ),
-      ap₂ (λ (text notes : List ℕ). printed_as text (end_of notes Answered)) c.in_ok-why_text.ensures (c.in_ok-notes.ensures chains.chain),
+      printed_same _ _ _ _ _ _ c.in_ok-why_text.ensures (c.in_ok-notes.ensures chains.chain) (c.kind_if.ensures chains.chain),
     )

@@ -16,7 +16,7 @@ use Rattle.inc_report.proofs.NamedLemmas.{blocked_object, marked_object}
 use Rattle.inc_report.proofs.named.hindrance_report.Goals as goal
 
 form : NamedForm
-form = record { asked = Cut; format = Json; all = false; most = None }
+form = record { asked = Cut; format = Json; all = false; fails = false; most = None }
 
 -- a fault that is refused is not that memory ran out
 refused_memory : (marks : List Mark) (costs : List Cost) (f : FixedFault) (r : Refusal) → Some r ≡ refusal_of_fault marks costs f → Marks f ≢ Marks fault.NoMemory

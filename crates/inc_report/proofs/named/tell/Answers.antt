@@ -1,8 +1,5 @@
-use Rattle.std.proofs.Common.{List, ℕ, ap₂}
-use Rattle.inc_report.specs.Printed.{end_of}
 use Rattle.inc_report.specs.Told.{Sources}
-use Rattle.inc_report.specs.declared.outcome.EndKind.TheVariants.{Answered}
-use Rattle.inc_report.proofs.NamedLemmas.{printed_as}
+use Rattle.inc_report.proofs.NamedLemmas.{printed_same}
 use Rattle.inc_report.proofs.WhoLemmas.{reaching-within}
 use Rattle.inc_report.proofs.WhyLemmas.{chains-within}
 use Rattle.inc_report.proofs.named.tell.Goals as goal
@@ -17,5 +14,5 @@ pub returns : goal.returns
 returns c = (
   Sources c.in_ok-reaching.reaching.left c.in_ok-chains.chains.left,
   (c.in_ok-reaching.ensures.all, c.in_ok-chains.ensures.all),
-  ap₂ (λ (text notes : List ℕ). printed_as text (end_of notes Answered)) c.in_ok-who_text.ensures c.in_ok-notes.ensures,
+  printed_same _ _ _ _ _ _ c.in_ok-who_text.ensures c.in_ok-notes.ensures c.kind_of-kind.ensures,
 )

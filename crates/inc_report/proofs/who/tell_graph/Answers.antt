@@ -1,7 +1,7 @@
-use Rattle.std.proofs.Common.{refl, ap, ◌∙◌}
-use Rattle.inc_report.specs.Printed.{answered_of, end_of}
-use Rattle.inc_report.specs.WhoText.{who_notes}
-use Rattle.inc_report.specs.declared.outcome.EndKind.TheVariants.{Answered}
+use Rattle.std.proofs.Common.{List, ℕ, refl, ap₂, ◌∙◌}
+use Rattle.inc_report.specs.Printed.{end_of}
+use Rattle.inc_report.specs.WhoText.{who_printed}
+use Rattle.inc_report.specs.declared.outcome.EndKind.{EndKind}
 use Rattle.inc_report.proofs.SendingLemmas.{sends_then}
 use Rattle.inc_report.proofs.WhoLemmas.{reaching-within}
 use Rattle.inc_report.proofs.who.tell_graph.Goals as goal
@@ -12,9 +12,12 @@ send_reaching-requires-clause-edges g c = reaching-within c.args.graph.now _ _ c
 pub returns-clause-sent : goal.returns-clause-sent
 returns-clause-sent g c = record {
   text = (
-    answered_of (who_notes c.args.project.now c.args.graph.now c.in_ok-reaching.reaching.left) _,
+    who_printed c.args.with_chains c.args.fails c.args.most c.args.project.now c.args.graph.now c.in_ok-reaching.reaching.left c.in_ok-chains.chains.left,
     (c.in_ok-reaching.reaching.left, c.in_ok-chains.chains.left, c.in_ok-reaching.ensures.all, c.in_ok-chains.ensures.all, refl),
-    record { ends = c.noted.ensures ∙ ap (λ n. end_of n Answered) c.in_ok-notes.ensures; sent = sends_then _ _ _ _ _ c.send_reaching.ensures c.send_ways.ensures },
+    record {
+      ends = c.noted.ensures ∙ ap₂ (λ (n : List ℕ) (k : EndKind). end_of n k) c.in_ok-notes.ensures c.kind_of-kind.ensures;
+      sent = sends_then _ _ _ _ _ c.send_reaching.ensures c.send_ways.ensures;
+    },
   );
   nothing = tt;
 }

@@ -6,11 +6,11 @@ use Rattle.inc_report.proofs.why.explain.Goals as goal
 pub returns-in-Ok-clause-sent : goal.returns-in-Ok-clause-sent
 returns-in-Ok-clause-sent g c =
     prints_all _ _ _ _ c.explain_graph.result
-    (λ p is. of_graph _ _ _ c.args.project.now (IsWhyOf c.args.most) c.args.question.now p _ is (c.in-Ok.ensures.graph p))
+    (λ p is. of_graph _ _ _ c.args.project.now (IsWhyOf c.args.fails c.args.most) c.args.question.now p _ is (c.in-Ok.ensures.graph p))
     c.explain_graph.ensures.sent
 
 pub returns-in-Err-clause-sent : goal.returns-in-Err-clause-sent
 returns-in-Err-clause-sent g c =
     prints_all _ _ _ _ c.refuse_question.result
-    (λ p is. of_none _ _ _ c.args.project.now (IsWhyOf c.args.most) c.args.question.now p (c.in-Err.ensures.stopped p is))
+    (λ p is. of_none _ _ _ c.args.project.now (IsWhyOf c.args.fails c.args.most) c.args.question.now p (c.in-Err.ensures.stopped p is))
     c.refuse_question.ensures.sent

@@ -1,8 +1,9 @@
-use Rattle.std.proofs.Common.{Some, None, refl, ap, subst, sym, ◌∙◌}
+use Rattle.std.proofs.Common.{[], Some, None, refl, ap, subst, sym, ◌∙◌}
 use Rattle.inc_graph.specs.Chains.{IsShortestOrNone, AreChainsByLast}
 use Rattle.inc_graph.specs.IncludeGraph.{Graph}
-use Rattle.inc_report.specs.MissingNotes.{unreached_notes}
-use Rattle.inc_report.specs.Printed.{answered, answered_of, end_of}
+use Rattle.inc_report.specs.Printed.{end_of}
+use Rattle.inc_report.specs.WhyText.{why_printed}
+use Rattle.inc_report.specs.declared.outcome.EndKind.{EndKind}
 use Rattle.inc_report.specs.declared.outcome.EndKind.TheVariants.{Answered}
 use Rattle.inc_report.proofs.why.explain_graph.Goals as goal
 
@@ -13,7 +14,11 @@ returns-then-find_shortest-clause-sent g c =
     let shortest = subst (λ (h : Graph). IsShortestOrNone h (Some chains.chain)) c.in_ok-chains.ensures.graph c.if-find_shortest.ensures.chain in
     let by_last = subst (AreChainsByLast graph 0) (sym c.find_shortest.ensures.left) c.in_ok-chains.ensures.all in
     record {
-      text = (answered _, (Some chains.chain, chains.left, shortest, by_last, refl), record { ends = c.plain.ensures; sent = c.send_reached.ensures });
+      text = (
+        why_printed c.args.fails c.args.most c.args.project.now graph (Some chains.chain) chains.left,
+        (Some chains.chain, chains.left, shortest, by_last, refl),
+        record { ends = c.plain.ensures ∙ ap (λ (k : EndKind). end_of [] k) c.reached_kind.ensures; sent = c.send_reached.ensures },
+      );
       nothing = tt;
     }
 
@@ -25,7 +30,7 @@ returns-clause-sent g c =
     let by_last = subst (AreChainsByLast graph 0) (sym c.find_shortest.ensures.left) c.in_ok-chains.ensures.all in
     record {
       text = (
-        answered_of (unreached_notes c.args.project.now graph.missing) _,
+        why_printed c.args.fails c.args.most c.args.project.now graph None chains.left,
         (None, chains.left, none, by_last, refl),
         record { ends = c.noted.ensures ∙ ap (λ n. end_of n Answered) c.in_ok-notes.ensures; sent = c.send_unreached.ensures },
       );

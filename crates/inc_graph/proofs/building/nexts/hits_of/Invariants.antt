@@ -8,8 +8,8 @@ use Rattle.inc_graph.proofs.building.nexts.hits_of.Given as goal
 abbrev pub invariant-loop-left : goal.invariant-loop-left
 invariant-loop-left l = record {
   all : l.hits.items ++ hits_left l.lookup l.name l.left ≡ hits_from l.lookup l.name 0;
-  within : IfSome l.left (λ k. k ≤ length l.lookup.dirs);
+  within : IfSome l.left (λ k. k ≤ length l.lookup.search.dirs);
 }
 
 abbrev pub decreases-loop-left : goal.decreases-loop-left
-decreases-loop-left l = hits_measure (length l.lookup.dirs) l.left
+decreases-loop-left l = hits_measure (length l.lookup.search.dirs) l.left

@@ -7,7 +7,7 @@ use Rattle.inc_lookup.proofs.projects.Project.each_path_once.Goals as goal
 same_place : (i j : ℕ) → Some i ≡ Some j → i ≡ j
 same_place i j same = cc
 
-each_once : (inside layout : Layout) (longest : ℕ) → IsKept longest inside.paths inside.dirs → inside ≡ layout → (i j : ℕ) → i < length layout.paths → j < length layout.paths
+each_once : (inside layout : Layout) (longest : ℕ) → IsKept longest inside.paths inside.search.dirs → inside ≡ layout → (i j : ℕ) → i < length layout.paths → j < length layout.paths
     → path_at layout i ≡ path_at layout j → i ≡ j
 each_once inside layout longest kept same =
     subst (λ (l : Layout). (i j : ℕ) → i < length l.paths → j < length l.paths → path_at l i ≡ path_at l j → i ≡ j) same

@@ -7,7 +7,7 @@ use Rattle.inc_lookup.proofs.OnePlace.{one_place}
 use Rattle.inc_lookup.proofs.projects.Project.file_near.Goals as goal
 
 -- a path is at one place
-once : (inside layout : Layout) (longest : ℕ) (p : List ℕ) → IsKept longest inside.paths inside.dirs → inside ≡ layout → (k : ℕ) → k < length layout.paths → path_at layout k ≡ p → place_of p layout.paths ≡ Some k
+once : (inside layout : Layout) (longest : ℕ) (p : List ℕ) → IsKept longest inside.paths inside.search.dirs → inside ≡ layout → (k : ℕ) → k < length layout.paths → path_at layout k ≡ p → place_of p layout.paths ≡ Some k
 once inside layout longest p kept same =
     subst (λ (l : Layout). (k : ℕ) → k < length l.paths → path_at l k ≡ p → place_of p l.paths ≡ Some k) same
     (λ k within is. one_place inside.paths k p kept.once within is)

@@ -9,15 +9,15 @@ look_at-requires c = c.dir-dir.ensures.normal
 
 pub returns-in-Some-clause-found : goal.returns-in-Some-clause-found
 returns-in-Some-clause-found c = λ text r relative.
-    let low : c.loop-index.index < length c.args.dirs.now = search rules in
+    let low : c.loop-index.index < length c.args.search.now.dirs = search rules in
     let found = sym (c.in_ok-found.ensures.found text r (λ absolute. absurd (both_ways (is_absolute text) relative absolute))) ∙ c.in-Some.is in
-    sym (found_here c.args.self.now.paths c.args.dirs.now c.dir-dir.result.now c.loop-index.index text c.in-Some.found low (sym c.dir-dir.ensures.dir) found)
+    sym (found_here c.args.self.now.paths c.args.search.now.dirs c.dir-dir.result.now c.loop-index.index text c.in-Some.found low (sym c.dir-dir.ensures.dir) found)
     ∙ c.loop-index.invariant text r relative
 
 pub loop-index-preserved : goal.loop-index-preserved
 loop-index-preserved c = λ text r relative.
-    let low : c.loop-index.index < length c.args.dirs.now = search rules in
+    let low : c.loop-index.index < length c.args.search.now.dirs = search rules in
     let none : c.in_ok-found.field-0 ≡ None = search rules in
     let found = sym (c.in_ok-found.ensures.found text r (λ absolute. absurd (both_ways (is_absolute text) relative absolute))) ∙ none in
-    sym (found_on c.args.self.now.paths c.args.dirs.now c.dir-dir.result.now c.loop-index.index text low (sym c.dir-dir.ensures.dir) found)
+    sym (found_on c.args.self.now.paths c.args.search.now.dirs c.dir-dir.result.now c.loop-index.index text low (sym c.dir-dir.ensures.dir) found)
     ∙ c.loop-index.invariant text r relative

@@ -7,4 +7,4 @@ use Rattle.inc_lookup.proofs.projects.Project.look_in_dirs.Given as goal
 -- the directories from here on decide
 abbrev pub invariant-loop-index : goal.invariant-loop-index
 invariant-loop-index l = (text : List ℕ) → IsReduced text l.name.climbs l.name.rest.now → is_absolute text ≡ false
-    → found_in l.self.paths l.dirs l.index text ≡ found_in l.self.paths l.dirs l.first text
+    → found_in l.self.paths l.search.dirs l.index text ≡ found_in l.self.paths l.search.dirs l.first text

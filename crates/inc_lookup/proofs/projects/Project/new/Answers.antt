@@ -12,7 +12,7 @@ returns-in_err-table-clause-fault c =
     let p = err_from_is_err_and c.from_residual.result c.from_residual.ensures.1 in
     rw (p.1, p.2) (λ known.
     let told = c.in_err-table.ensures.fault known in
-    rw told.1 (fault-file (map (λ p. p.now) c.args.paths.now) (map (λ d. d.now) c.args.dirs.now) told.0 few told.2))
+    rw told.1 (fault-file (map (λ p. p.now) c.args.paths.now) c.args.quoted (map (λ d. d.now) c.args.dirs.now) told.0 few told.2))
 
 pub returns-in_err-dirs-clause-fault : goal.returns-in_err-dirs-clause-fault
 returns-in_err-dirs-clause-fault c =
@@ -21,14 +21,14 @@ returns-in_err-dirs-clause-fault c =
     rw (p.1, p.2) (λ known.
     let told = c.in_err-dirs.ensures.fault known in
     rw (told.1, ← length-map c.args.paths.now (λ p. p.now))
-    (fault-dir (map (λ p. p.now) c.args.paths.now) (map (λ d. d.now) c.args.dirs.now) told.0 few c.in_ok-table.ensures.paths.good.good told.2))
+    (fault-dir (map (λ p. p.now) c.args.paths.now) c.args.quoted (map (λ d. d.now) c.args.dirs.now) told.0 few c.in_ok-table.ensures.paths.good.good told.2))
 
 pub returns-in-Some-clause-fault : goal.returns-in-Some-clause-fault
 returns-in-Some-clause-fault c = λ known.
     let few : length (map (λ p. p.now) c.args.paths.now) ≤ MOST_FILES = rw length-map (omega arith) in
     let table = c.in_ok-table.ensures.paths in
     let tabled = subst (IsTabled table.forms c.in_ok-table.table.paths) c.in-Some.is table.tabled in
-    fault-same (map (λ p. p.now) c.args.paths.now) (map (λ d. d.now) c.args.dirs.now) _ _ few table.good c.in_ok-dirs.ensures.paths (c.in-Some.first, c.in-Some.second) tabled
+    fault-same (map (λ p. p.now) c.args.paths.now) c.args.quoted (map (λ d. d.now) c.args.dirs.now) _ _ few table.good c.in_ok-dirs.ensures.paths (c.in-Some.first, c.in-Some.second) tabled
 
 pub invariant_of-result : goal.invariant_of-result
 invariant_of-result c =
@@ -36,13 +36,13 @@ invariant_of-result c =
     let table = c.in_ok-table.ensures.paths in
     let tabled = subst (IsTabled table.forms c.in_ok-table.table.paths) c.in_default.is table.tabled in
     let longest = rw tabled.0 at c.longest-longest.ensures in
-    rw (tabled.0, c.in_ok-dirs-2.ensures, c.deref.ensures.value)
-    (is_kept (map (λ p. p.now) c.args.paths.now) (map (λ d. d.now) c.args.dirs.now) _ _ few table.good c.in_ok-dirs.ensures.paths c.longest-longest.result longest tabled.1)
+    rw (tabled.0, c.in_ok-search.ensures, c.deref.ensures.value)
+    (is_kept (map (λ p. p.now) c.args.paths.now) c.args.quoted (map (λ d. d.now) c.args.dirs.now) _ _ few table.good c.in_ok-dirs.ensures.paths c.longest-longest.result longest tabled.1)
 
 pub returns-clause-project : goal.returns-clause-project
 returns-clause-project c =
     let few : length (map (λ p. p.now) c.args.paths.now) ≤ MOST_FILES = rw length-map (omega arith) in
     let table = c.in_ok-table.ensures.paths in
     let tabled = subst (IsTabled table.forms c.in_ok-table.table.paths) c.in_default.is table.tabled in
-    rw (tabled.0, c.in_ok-dirs-2.ensures, c.deref.ensures.value)
-    (project_made (map (λ p. p.now) c.args.paths.now) (map (λ d. d.now) c.args.dirs.now) _ _ few table.good c.in_ok-dirs.ensures.paths tabled.1)
+    rw (tabled.0, c.in_ok-search.ensures, c.deref.ensures.value)
+    (project_made (map (λ p. p.now) c.args.paths.now) c.args.quoted (map (λ d. d.now) c.args.dirs.now) _ _ few table.good c.in_ok-dirs.ensures.paths tabled.1)
