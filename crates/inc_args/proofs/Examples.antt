@@ -17,7 +17,7 @@ cut_words =
 -- options stand before words and after them; letters may share a word
 pub cut_is_asked : meaning cut_words
     ≡ record {
-      asked = Cut (record { files = files; source = Some (codes "s.c"); header = Some (codes "h.h"); from = []; to = []; without = None; drop = []; undefined = [] }) (record { fixed = None; keep = codes "k/*.h:7" ∷ codes "l" ∷ []; only = []; costs = Some (codes "-") })
+      asked = Cut (record { files = files; source = Some (codes "s.c"); header = Some (codes "h.h"); from = []; to = []; without = None; drop = []; is_strict = false; external = []; undefined = [] }) (record { fixed = None; keep = codes "k/*.h:7" ∷ codes "l" ∷ []; only = []; costs = Some (codes "-") })
           (record { is_blank = true; is_patch = false; format = record { name = Some (codes "text"); is_all = true; fails = false; most = Some (codes "9") } });
       languages = record { is_extended = true; is_gnu = false };
       is_quiet = true;
@@ -47,6 +47,7 @@ pub sources_are_preprocessed : meaning (codes "incut" ∷ codes "pp" ∷ codes "
         words = codes "A" ∷ codes "B=1" ∷ [];
         is_missing_empty = false;
         has_markers = false;
+        most_read = None;
         deps = None;
         status = None;
       });
@@ -68,6 +69,8 @@ pub sets_are_asked : meaning (codes "incut" ∷ codes "why" ∷ codes "--files" 
         to = codes "a.h" ∷ [];
         without = None;
         drop = [];
+        is_strict = false;
+        external = [];
         undefined = [];
       }) (record { name = Some (codes "gcc"); is_all = false; fails = false; most = None });
       languages = record { is_extended = false; is_gnu = false };
@@ -88,6 +91,8 @@ pub sources_are_asked : meaning (codes "incut" ∷ codes "who" ∷ codes "--file
         to = [];
         without = None;
         drop = [];
+        is_strict = false;
+        external = [];
         undefined = codes "N" ∷ [];
       }) (record { name = Some (codes "gcc"); is_all = true; fails = false; most = None });
       languages = record { is_extended = false; is_gnu = false };
@@ -108,6 +113,8 @@ pub edges_are_asked : meaning (codes "incut" ∷ codes "graph" ∷ codes "--from
         to = [];
         without = None;
         drop = codes "a.c:3" ∷ [];
+        is_strict = false;
+        external = [];
         undefined = [];
       }) (record { name = None; is_all = false; fails = false; most = None });
       languages = record { is_extended = false; is_gnu = false };
@@ -128,6 +135,8 @@ pub sources_of_a_build_are_asked : meaning (codes "incut" ∷ codes "graph" ∷ 
         to = [];
         without = None;
         drop = [];
+        is_strict = false;
+        external = [];
         undefined = [];
       }) (record { name = Some (codes "dot"); is_all = false; fails = false; most = None });
       languages = record { is_extended = false; is_gnu = false };

@@ -78,6 +78,12 @@ without = option (codes "without")
 abbrev pub drop : Rule
 drop = repeated_option (codes "drop")
 
+abbrev pub strict : Rule
+strict = flag (codes "strict")
+
+abbrev pub external : Rule
+external = repeated_option (codes "external")
+
 abbrev pub keep : Rule
 keep = repeated_option (codes "keep")
 
@@ -130,6 +136,9 @@ missing_empty = flag (codes "missing-empty")
 
 abbrev pub lines : Rule
 lines = flag (codes "lines")
+
+abbrev pub most_read : Rule
+most_read = option (codes "most-read")
 
 abbrev pub deps : Rule
 deps = option (codes "deps")
@@ -187,6 +196,10 @@ file_rules = list_rules ++ search_rules
 abbrev pub drop_rules : List Rule
 drop_rules = drop ∷ []
 
+-- whether a header that is not found is refused, and which are excepted
+abbrev pub strict_rules : List Rule
+strict_rules = strict ∷ external ∷ []
+
 -- whether notes stand beside the answer
 abbrev pub note_rules : List Rule
 note_rules = quiet ∷ []
@@ -211,6 +224,10 @@ form_rules = blank ∷ patch ∷ format_rules
 abbrev pub macro_rules : List Rule
 macro_rules = define ∷ defines ∷ compiler ∷ missing_empty ∷ lines ∷ []
 
+-- what bounds each source
+abbrev pub bound_rules : List Rule
+bound_rules = most_read ∷ []
+
 -- what is written to files beside the answer
 abbrev pub output_rules : List Rule
 output_rules = deps ∷ status ∷ []
@@ -231,22 +248,22 @@ abbrev pub scan : App
 scan = command (codes "scan") (extended ∷ gnu ∷ format ∷ path ∷ [])
 
 abbrev pub why : App
-why = command (codes "why") (extended ∷ gnu ∷ file_rules ++ drop_rules ++ note_rules ++ reach_rules ++ format_rules ++ end_rules)
+why = command (codes "why") (extended ∷ gnu ∷ file_rules ++ drop_rules ++ strict_rules ++ note_rules ++ reach_rules ++ format_rules ++ end_rules)
 
 abbrev pub who : App
-who = command (codes "who") (extended ∷ gnu ∷ file_rules ++ drop_rules ++ note_rules ++ reach_rules ++ who_rules)
+who = command (codes "who") (extended ∷ gnu ∷ file_rules ++ drop_rules ++ strict_rules ++ note_rules ++ reach_rules ++ who_rules)
 
 abbrev pub graph : App
-graph = command (codes "graph") (extended ∷ gnu ∷ file_rules ++ drop_rules ++ graph_rules)
+graph = command (codes "graph") (extended ∷ gnu ∷ file_rules ++ drop_rules ++ strict_rules ++ graph_rules)
 
 abbrev pub cut : App
-cut = command (codes "cut") (extended ∷ gnu ∷ file_rules ++ drop_rules ++ note_rules ++ limit_rules ++ form_rules ++ end_rules)
+cut = command (codes "cut") (extended ∷ gnu ∷ file_rules ++ drop_rules ++ strict_rules ++ note_rules ++ limit_rules ++ form_rules ++ end_rules)
 
 abbrev pub check : App
-check = command (codes "check") (extended ∷ gnu ∷ file_rules ++ drop_rules ++ note_rules ++ limit_rules ++ certificate ∷ end_rules)
+check = command (codes "check") (extended ∷ gnu ∷ file_rules ++ drop_rules ++ strict_rules ++ note_rules ++ limit_rules ++ certificate ∷ end_rules)
 
 abbrev pub pp : App
-pp = command (codes "pp") (extended ∷ gnu ∷ file_rules ++ macro_rules ++ output_rules ++ sources ∷ [])
+pp = command (codes "pp") (extended ∷ gnu ∷ file_rules ++ macro_rules ++ bound_rules ++ output_rules ++ sources ∷ [])
 
 -- the program before its commands; it prints its version
 abbrev pub program : App
@@ -258,5 +275,13 @@ program =
 abbrev pub with_command : App → App → App
 with_command app sub = with_subcommand app sub.top
 
+-- with the commands that tell what sources include
+abbrev pub with_views : App → App
+with_views app = fold with_command app (scan ∷ why ∷ who ∷ graph ∷ [])
+
+-- with those that tell what to edit, check it, and preprocess
+abbrev pub with_edits : App → App
+with_edits app = fold with_command app (cut ∷ check ∷ pp ∷ [])
+
 abbrev pub incut : App
-incut = fold with_command program (scan ∷ why ∷ who ∷ graph ∷ cut ∷ check ∷ pp ∷ [])
+incut = with_edits (with_views program)

@@ -30,6 +30,10 @@ pub record Question : Type 0 where
   pub without : Option Text
   -- the places whose directives are taken as removed, too
   pub drop : List Text
+  -- a header that is not found is refused
+  pub is_strict : Bool
+  -- but those whose names these fit
+  pub external : List Text
   pub undefined : List Text
 
 -- what limits a cut
@@ -75,6 +79,8 @@ pub record Preprocessing : Type 0 where
   pub is_missing_empty : Bool
   -- whether markers say which lines the tokens are from
   pub has_markers : Bool
+  -- how many bytes are read for a source at most, if that is given
+  pub most_read : Option Text
   -- the file that make rules of what is read are written to
   pub deps : Option Text
   -- the file that is written with how each source ended
@@ -148,6 +154,8 @@ question_in rows = record {
   to = values_of (codes "to") rows;
   without = first_of (codes "without") rows;
   drop = values_of (codes "drop") rows;
+  is_strict = is_given (codes "strict") rows;
+  external = values_of (codes "external") rows;
   undefined = values_of (codes "undefined") rows;
 }
 
@@ -194,6 +202,7 @@ preprocessing_in rows = record {
   words = values_of (codes "define") rows;
   is_missing_empty = is_given (codes "missing-empty") rows;
   has_markers = is_given (codes "lines") rows;
+  most_read = first_of (codes "most-read") rows;
   deps = first_of (codes "deps") rows;
   status = first_of (codes "status") rows;
 }

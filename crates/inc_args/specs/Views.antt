@@ -33,6 +33,8 @@ seen_question q = record {
   to = map (λ t. t.now) q.to.items;
   without = option_map (λ w. w.now) q.without;
   drop = map (λ d. d.now) q.drop.items;
+  is_strict = q.is_strict;
+  external = map (λ n. n.now) q.external.items;
   undefined = map (λ n. n.now) q.undefined.items;
 }
 
@@ -54,6 +56,7 @@ seen_pp p = record {
   words = map (λ w. w.now) p.words.items;
   is_missing_empty = p.is_missing_empty;
   has_markers = p.has_markers;
+  most_read = option_map (λ m. m.now) p.most_read;
   deps = option_map (λ d. d.now) p.deps;
   status = option_map (λ s. s.now) p.status;
 }

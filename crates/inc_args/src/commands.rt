@@ -2,7 +2,7 @@
 ghost use Rattle.std.specs.Prelude.{◌≡◌, ◌∷◌, [], IfOk};
 ghost use Rattle.clap.specs.Words.{app_of};
 ghost use Rattle.inc_args.specs.CommandLine as line;
-ghost use Rattle.inc_args.specs.CommandLine.{end_rules, file_rules, form_rules, format_rules, graph_rules, incut, limit_rules, list_rules, macro_rules, note_rules, output_rules, reach_rules, search_rules, who_rules, with_rules, drop_rules};
+ghost use Rattle.inc_args.specs.CommandLine.{bound_rules, end_rules, file_rules, form_rules, format_rules, graph_rules, incut, limit_rules, list_rules, macro_rules, note_rules, output_rules, reach_rules, search_rules, strict_rules, who_rules, with_rules, drop_rules};
 
 use crate::help::{
     ABOUT, ALL_HELP, CHECK_NOTES, CUT_NOTES, EXAMPLES, EXTENDED_HELP, FORMAT_HELP, GNU_HELP,
@@ -81,6 +81,25 @@ fn with_drop<'a>(alloc: Global, command: Command<'a>) -> Result<Command<'a>, All
     command.arg(repeated_option(alloc, "drop", "GLOB:LINE", drop))
 }
 
+/// Adds these, after what tells the files of a project.
+fn with_dropped<'a>(alloc: Global, command: Command<'a>) -> Result<Command<'a>, AllocError>
+    ensures { IfOk result (λ c. app_of c ≡ with_rules (with_rules (app_of command.entry) file_rules) drop_rules) }
+{
+    with_drop(alloc, with_files(alloc, command)?)
+}
+
+/// Adds the options that tell whether a header that is not found is refused, and which are excepted.
+fn with_strict<'a>(alloc: Global, command: Command<'a>) -> Result<Command<'a>, AllocError>
+    ensures { IfOk result (λ c. app_of c ≡ with_rules (app_of command.entry) strict_rules) }
+{
+    let strict = "Refuse to answer where a header is not found";
+    let external =
+        "With --strict, except the headers whose names in includes GLOB fits (repeatable)";
+    command
+        .arg(flag(alloc, "strict", strict))?
+        .arg(repeated_option(alloc, "external", "GLOB", external))
+}
+
 /// Adds the flag that turns notes off.
 fn with_notes<'a>(alloc: Global, command: Command<'a>) -> Result<Command<'a>, AllocError>
     ensures { IfOk result (λ c. app_of c ≡ with_rules (app_of command.entry) note_rules) }
@@ -150,6 +169,14 @@ fn with_macros<'a>(alloc: Global, command: Command<'a>) -> Result<Command<'a>, A
         .arg(option(alloc, "compiler", "FILE", compiler))?
         .arg(flag(alloc, "missing-empty", missing))?
         .arg(flag(alloc, "lines", lines))
+}
+
+/// Adds the options that bound what each source takes.
+fn with_bounds<'a>(alloc: Global, command: Command<'a>) -> Result<Command<'a>, AllocError>
+    ensures { IfOk result (λ c. app_of c ≡ with_rules (app_of command.entry) bound_rules) }
+{
+    let most_read = "Stop a source once more than BYTES bytes are read for it";
+    command.arg(option(alloc, "most-read", "BYTES", most_read))
 }
 
 /// Adds the options that tell what is written to files beside the answer.
@@ -225,7 +252,7 @@ fn why<'a>(alloc: Global) -> Result<Command<'a>, AllocError>
         "Explain why a source includes a header",
         WHY_NOTES,
     )?;
-    let command = with_drop(alloc, with_files(alloc, command)?)?;
+    let command = with_strict(alloc, with_dropped(alloc, command)?)?;
     let command = with_reach(alloc, with_notes(alloc, command)?)?;
     with_ends(alloc, with_format(alloc, command)?)
 }
@@ -239,7 +266,7 @@ fn who<'a>(alloc: Global) -> Result<Command<'a>, AllocError>
         "List the sources that include a header",
         WHO_NOTES,
     )?;
-    let command = with_drop(alloc, with_files(alloc, command)?)?;
+    let command = with_strict(alloc, with_dropped(alloc, command)?)?;
     with_who(alloc, with_reach(alloc, with_notes(alloc, command)?)?)
 }
 
@@ -252,7 +279,7 @@ fn graph<'a>(alloc: Global) -> Result<Command<'a>, AllocError>
         "List all includes that sources reach",
         GRAPH_NOTES,
     )?;
-    with_sources(alloc, with_drop(alloc, with_files(alloc, command)?)?)
+    with_sources(alloc, with_strict(alloc, with_dropped(alloc, command)?)?)
 }
 
 fn cut<'a>(alloc: Global) -> Result<Command<'a>, AllocError>
@@ -261,7 +288,7 @@ fn cut<'a>(alloc: Global) -> Result<Command<'a>, AllocError>
     let about =
         "Find the fewest include directives to remove so that a source no longer includes a header";
     let command = started(alloc, "cut", about, CUT_NOTES)?;
-    let command = with_drop(alloc, with_files(alloc, command)?)?;
+    let command = with_strict(alloc, with_dropped(alloc, command)?)?;
     let command = with_limits(alloc, with_notes(alloc, command)?)?;
     with_ends(alloc, with_forms(alloc, command)?)
 }
@@ -275,7 +302,7 @@ fn check<'a>(alloc: Global) -> Result<Command<'a>, AllocError>
         "Check the output of `incut cut`",
         CHECK_NOTES,
     )?;
-    let command = with_drop(alloc, with_files(alloc, command)?)?;
+    let command = with_strict(alloc, with_dropped(alloc, command)?)?;
     let command = with_limits(alloc, with_notes(alloc, command)?)?;
     let help = "File with the output of `incut cut`; `-` is standard input";
     let command = command.arg(word(alloc, "CERT", help))?;
@@ -287,6 +314,7 @@ fn pp<'a>(alloc: Global) -> Result<Command<'a>, AllocError>
 {
     let command = started(alloc, "pp", "Preprocess sources", PP_NOTES)?;
     let command = with_macros(alloc, with_files(alloc, command)?)?;
+    let command = with_bounds(alloc, command)?;
     with_outputs(alloc, command)?.arg(sources(alloc))
 }
 
@@ -302,16 +330,32 @@ fn program<'a>(alloc: Global) -> Result<Command<'a>, AllocError>
         .arg(flag(alloc, "gnu", GNU_HELP))
 }
 
+/// Adds the commands that tell what sources include.
+fn with_views<'a>(alloc: Global, program: Command<'a>) -> Result<Command<'a>, AllocError>
+    ensures { IfOk result (λ c. app_of c ≡ line.with_views (app_of program.entry)) }
+{
+    program
+        .subcommand(scan(alloc)?)?
+        .subcommand(why(alloc)?)?
+        .subcommand(who(alloc)?)?
+        .subcommand(graph(alloc)?)
+}
+
+/// Adds the commands that tell what to edit, check it, and preprocess.
+fn with_edits<'a>(alloc: Global, program: Command<'a>) -> Result<Command<'a>, AllocError>
+    ensures { IfOk result (λ c. app_of c ≡ line.with_edits (app_of program.entry)) }
+{
+    program
+        .subcommand(cut(alloc)?)?
+        .subcommand(check(alloc)?)?
+        .subcommand(pp(alloc)?)
+}
+
 /// The program with its commands.
 pub(crate) fn incut<'a>(alloc: Global) -> Result<Command<'a>, AllocError>
     ensures { IfOk result (λ c. app_of c ≡ incut) }
 {
-    program(alloc)?
-        .subcommand(scan(alloc)?)?
-        .subcommand(why(alloc)?)?
-        .subcommand(who(alloc)?)?
-        .subcommand(graph(alloc)?)?
-        .subcommand(cut(alloc)?)?
-        .subcommand(check(alloc)?)?
-        .subcommand(pp(alloc)?)
+    // One part after the other, so that the stack has the commands of one alone.
+    let command = with_views(alloc, program(alloc)?)?;
+    with_edits(alloc, command)
 }

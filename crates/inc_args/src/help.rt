@@ -132,6 +132,11 @@ of the cut, so that this shows whether they are enough:
 
   incut why --drop 'src/*.c:3' src/main.c include/api.h
 
+--strict refuses to answer where an include names a header that is not found, so that nothing is
+missed. --external excepts headers by their names in includes, of which GLOB fits some:
+
+  incut why --strict --external 'sys/*' --external stdio.h src/main.c include/api.h
+
 For a test of a build, --fail-if-reached makes a chain a negative answer: the exit status is 1 where SOURCE
 includes HEADER, and 0 where it does not. The output stays:
 
@@ -156,7 +161,8 @@ file that --from and --to both stand for is taken as a header alone:
 
   incut who -I include --from 'src/net/*.c' --to 'include/private/*.h'
 
-With --fail-if-reached the exit status is 1 where some source includes HEADER, as for `incut why`.
+With --fail-if-reached the exit status is 1 where some source includes HEADER, as for `incut why`, and
+with --strict it is refused where a header is not found.
 
 --chains prints below each source the first of its shortest chains, as `incut why` does for that
 source:
@@ -188,7 +194,8 @@ and below it the file that it includes. Files are named as for `incut why`:
   include/net.h
 
 They are in the order of the files, and in a file from the top. After them come `missing` and
-`blocked`, as `incut why` prints them. --format dot draws them:
+`blocked`, as `incut why` prints them. With --strict it is refused where a header is not found.
+--format dot draws them:
 
   incut graph -I include --format dot | dot -Tsvg > includes.svg
 
@@ -221,7 +228,7 @@ Each directive is printed as its line and its file; `chain 2` is a chain of two 
 chains show that fewer do not suffice: each leads from SOURCE to HEADER, and no two of them share a
 directive that may be removed. `incut check` checks that. Headers that are not found count as empty:
 a note on standard error tells how many includes name them, unless --quiet is given, and `incut why`
-lists these.
+lists these. With --strict they are refused, as for `incut why`.
 
 --fixed names a file with directives that may not be removed, as --without of `incut why` has them.
 Where these alone lead from SOURCE to HEADER, the answer is such a chain:
@@ -272,7 +279,7 @@ HEADER and that none is cheaper, else `no` and the first reason:
   incut check -I include cut.txt src/main.c include/api.h
 
 Its options are those that `incut cut` had, as --from, --to, --keep, --only and --drop. A note tells
-of headers that are not found, as there.
+of headers that are not found, as there, or --strict refuses them.
 
   1 not editable   a directive of the cut does not stand there or is fixed
   2 repeated       a directive stands twice in the cut
@@ -324,6 +331,11 @@ that looks like that of a stop may be one of tokens:
   1302 src/main.c
   answered
 
+With --most-read a source stops at the include that leads to a file with which more than BYTES bytes are
+read for it, a file that is read again counted again:
+
+  incut pp -I include --most-read 10000000 src/*.c
+
 --defines names a file with lines `#define NAME BODY` or `#define NAME(PARAMETERS) BODY`. They come
 before the words of -D. --compiler names one that may have lines `dir PATH`, too, for directories that
 are searched after those of -isystem, and lines `has NAME(ARG) NUMBER` for what a compiler answers to
@@ -335,5 +347,5 @@ Where it cannot go on, the last line is `stop C.F LINE PATH`: cause, fault and p
   1 unterminated comment   6 header not found        11 #error
   2 unbalanced #if         7 include without a name  12 more than 200 nested includes
   3 bad #define or #undef  8 bad #line               13 more than 100000 reads
-  4 bad macro call         9 #ifdef without a name
+  4 bad macro call         9 #ifdef without a name   17 more than BYTES read
   5 bad condition         10 unknown directive";

@@ -117,6 +117,7 @@ fn read_pp<'a>(alloc: Global, matches: &ArgMatches<'a>) -> Result<PpArgs<'a>, Al
         words: values(alloc, matches, "define")?,
         is_missing_empty: is_given(matches, "missing-empty"),
         has_markers: is_given(matches, "lines"),
+        most_read: given(matches, "most-read"),
         deps: given(matches, "deps"),
         status: given(matches, "status"),
     })
@@ -151,6 +152,8 @@ fn read_question<'a>(
         to: values(alloc, matches, "to")?,
         without: given(matches, "without"),
         drop: values(alloc, matches, "drop")?,
+        is_strict: is_given(matches, "strict"),
+        external: values(alloc, matches, "external")?,
         undefined: values(alloc, matches, "undefined")?,
     })
 }

@@ -79,6 +79,10 @@ pub struct QuestionArgs<'a> {
     pub without: Option<&'a str>,
     /// The places whose directives are taken as removed, too.
     pub drop: Vec<&'a str>,
+    /// Whether a header that is not found is refused.
+    pub is_strict: bool,
+    /// The globs of the names of headers that are excepted.
+    pub external: Vec<&'a str>,
     /// The names that no build defines.
     pub undefined: Vec<&'a str>,
 }
@@ -139,6 +143,8 @@ pub struct PpArgs<'a> {
     pub is_missing_empty: bool,
     /// Whether markers say which lines the tokens are from.
     pub has_markers: bool,
+    /// How many bytes are read for a source at most, if that is given.
+    pub most_read: Option<&'a str>,
     /// The file that make rules of what is read are written to, where there is one.
     pub deps: Option<&'a str>,
     /// The file that is written with how each source ended, where there is one.

@@ -1,5 +1,5 @@
 -- What is left to do for a question once something of it is known.
-use Rattle.std.proofs.Common.{◌≡◌, ◌++◌, [], ℕ, Ok, List, refl}
+use Rattle.std.proofs.Common.{◌≡◌, ◌++◌, [], ℕ, Bool, Ok, List, refl}
 use Rattle.inc_text.specs.declared.languages.Language.{Language}
 use Rattle.inc_lookup.specs.IncludePath.{NamedPath}
 use Rattle.inc_lookup.specs.Projects.{Layout, SearchPath}
@@ -21,10 +21,10 @@ abbrev pub texts_with : (list : List ℕ) (fixed without : List Mark) (costs : L
 texts_with list fixed without costs = record { list = list; fixed = fixed; without = without; costs = costs }
 
 -- what they hold, part by part
-pub opened_made : (q : Question) (t : Texts) (paths : List (List ℕ)) (costs : List Cost) (undefined : List (List ℕ)) (path : NamedPath)
-    → paths ≡ paths_in q.files t.list → undefined ≡ q.undefined → path ≡ include_path q.files []
-    → (let o : Opened = record { paths = paths; costs = costs; undefined = undefined; path = path } in o) ≡ opened_by q t costs
-opened_made q t paths costs undefined path a b c = rw (a, b, c) refl
+pub opened_made : (q : Question) (t : Texts) (paths : List (List ℕ)) (costs : List Cost) (undefined external : List (List ℕ)) (strict : Bool) (path : NamedPath)
+    → paths ≡ paths_in q.files t.list → undefined ≡ q.undefined → external ≡ q.external → strict ≡ q.is_strict → path ≡ include_path q.files []
+    → (let o : Opened = record { paths = paths; costs = costs; undefined = undefined; is_strict = strict; external = external; path = path } in o) ≡ opened_by q t costs
+opened_made q t paths costs undefined external strict path a b c d e = rw (a, b, c, d, e) refl
 
 -- once the places are known, once sources and headers are, once the include paths are, and once the costs are
 abbrev pub with_places : {S : Type 0} → Language → Command → Question → Opened → Layout → Built → EndPaths → Places → Step S Asked

@@ -1,12 +1,13 @@
 -- What a run comes to that preprocesses sources.
-use Rattle.std.specs.Prelude.{◌≡◌, ◌++◌, ◌||◌, ℕ, Bool, true, false, List, [], ◌∷◌, Option, Some, None, Result, Ok, IfErr, IfSome, is_some}
+use Rattle.std.specs.Prelude.{◌≡◌, ◌++◌, ◌&&◌, ◌||◌, ℕ, Bool, true, false, List, [], ◌∷◌, Option, Some, None, Result, Ok, IfErr, IfSome, is_none, is_some, option_and_then}
 use Rattle.std.specs.Io.KnownBytes.{Appends}
 use Rattle.inc_text.specs.declared.languages.Language.{Language}
 use Rattle.inc_text.specs.declared.devices.ReadFault.{ReadFault}
 use Rattle.inc_lookup.specs.Given.{FailsAfter, HoldsOfGiven}
 use Rattle.inc_lookup.specs.IncludePath.{NamedPath}
 use Rattle.inc_lookup.specs.Projects.{Layout}
-use Rattle.inc_pp.specs.Settings.{found_in_settings, marked_settings, usual_settings}
+use Rattle.inc_check.specs.Reading.{number_in}
+use Rattle.inc_pp.specs.Settings.{found_in_settings, limited_settings, marked_settings, usual_settings}
 use Rattle.inc_pp.specs.declared.settings.Missing.{Missing}
 use Rattle.inc_pp.specs.declared.settings.Missing.TheVariants.{Empty, Stop}
 use Rattle.inc_report.specs.PpTexts.{IsNextPp, IsPpBy, wanted_of}
@@ -26,7 +27,7 @@ use Rattle.inc_inputs.specs.BuildProjects.{Found, found_preprocessing, with_macr
 use Rattle.inc_inputs.specs.BuildSteps.{found_if}
 use Rattle.inc_build.specs.declared.compiler_words.Kind.{Kind}
 use Rattle.inc_inputs.specs.Questions.{with_questions}
-use Rattle.inc_inputs.specs.Reports.{Report, input_twice, no_file, one_file}
+use Rattle.inc_inputs.specs.Reports.{Report, input_twice, no_file, no_most_read, one_file}
 use Rattle.inc_inputs.specs.Steps.{Step, comes_to, next_of, then, writes_if}
 use Rattle.inc_inputs.specs.ProjectLists.{paths_in}
 use Rattle.inc_inputs.specs.Texts.{are_one, are_twice, listed_layout, names_input, unless, unless_reported}
@@ -35,6 +36,14 @@ use Rattle.inc_inputs.specs.Texts.{are_one, are_twice, listed_layout, names_inpu
 abbrev pub missing_of : (is_empty : Bool) → Missing
 missing_of true = Empty
 missing_of false = Stop
+
+-- the number that a word is that bounds a preprocessing, if it is given
+abbrev pub bound_of : (word : Option (List ℕ)) → Option ℕ
+bound_of word = option_and_then number_in word
+
+-- such a word is given that is no number
+abbrev pub is_no_bound : (word : Option (List ℕ)) → Bool
+is_no_bound word = is_some word && is_none (bound_of word)
 
 -- what is preprocessed
 pub record PpAsked : Type 0 where
@@ -64,7 +73,8 @@ pp_asked language p macros notes texts =
       question = record {
         sources = p.sources;
         words = all_words language p macros texts;
-        settings = found_in_settings (searched p texts).dirs (marked_settings p.has_markers (usual_settings language (missing_of p.is_missing_empty)));
+        settings = found_in_settings (searched p texts).dirs
+            (limited_settings (bound_of p.most_read) (marked_settings p.has_markers (usual_settings language (missing_of p.is_missing_empty))));
         without = texts.without;
         has_rules = is_some p.deps;
         has_endings = is_some p.status;
@@ -107,8 +117,12 @@ abbrev pub pp_apart : {S : Type 0} → Gives S → Language → Preprocessing �
 pp_apart gives language p = unless (are_one p.deps p.status) one_file (pp_named gives language p)
 
 -- what is written beside the answer goes to files
+abbrev pub pp_bounded : {S : Type 0} → Gives S → Language → Preprocessing → Step S PpAsked
+pp_bounded gives language p = unless (names_input p.deps || names_input p.status) no_file (pp_apart gives language p)
+
+-- what bounds it is a number
 abbrev pub pp_of : {S : Type 0} → Gives S → Language → Preprocessing → Step S PpAsked
-pp_of gives language p = unless (names_input p.deps || names_input p.status) no_file (pp_apart gives language p)
+pp_of gives language p = unless (is_no_bound p.most_read) no_most_read (pp_bounded gives language p)
 
 ---- what is printed
 

@@ -1,5 +1,5 @@
 -- What is asked about sources and headers, by the words and by the texts that they name.
-use Rattle.std.specs.Prelude.{◌≡◌, ◌⊎◌, ℕ, ◌&&◌, not, List, [], ◌∷◌, ◌++◌, Option, Some, None, Ok, Err, unwrap_or}
+use Rattle.std.specs.Prelude.{◌≡◌, ◌⊎◌, ℕ, Bool, ◌&&◌, not, List, [], ◌∷◌, ◌++◌, Option, Some, None, Ok, Err, unwrap_or}
 use Rattle.inc_text.specs.declared.languages.Language.{Language}
 use Rattle.inc_lookup.specs.IncludePath.{NamedPath}
 use Rattle.inc_lookup.specs.Projects.{Layout, SearchPath}
@@ -18,7 +18,7 @@ use Rattle.inc_inputs.specs.BuildProjects.{Added, Found, found_question, none_ad
 use Rattle.inc_inputs.specs.BuildPlaces.{include_paths_of, read_with}
 use Rattle.inc_inputs.specs.BuildSteps.{found_if}
 use Rattle.inc_inputs.specs.HeaderNames.{header_notes}
-use Rattle.inc_inputs.specs.UndefinedNames.{names_report}
+use Rattle.inc_inputs.specs.ExternalNames.{named_report}
 use Rattle.inc_cli.specs.Commands.{Command, certificate_of, has_headers, headers_of}
 
 -- what a question about a project is asked of
@@ -43,6 +43,9 @@ pub record Opened : Type 0 where
   pub costs : List Cost
   -- the names that no build defines
   pub undefined : List (List ℕ)
+  -- whether a header that is not found is refused, and the globs of those that are not
+  pub is_strict : Bool
+  pub external : List (List ℕ)
   -- the include path
   pub path : NamedPath
 
@@ -66,6 +69,8 @@ asked_for language command o layout b ends places notes = record {
     undefined = o.undefined;
     others = b.others;
     read_with = b.read_with;
+    is_strict = o.is_strict;
+    external = o.external;
   };
   limits = record { fixed = places.fixed; kept = places.kept; costs = o.costs };
   notes = notes;
@@ -73,7 +78,14 @@ asked_for language command o layout b ends places notes = record {
 
 -- what the texts hold, once the costs are known
 abbrev pub opened_by : Question → Texts → List Cost → Opened
-opened_by q texts costs = record { paths = paths_in q.files texts.list; costs = costs; undefined = q.undefined; path = include_path q.files [] }
+opened_by q texts costs = record {
+  paths = paths_in q.files texts.list;
+  costs = costs;
+  undefined = q.undefined;
+  is_strict = q.is_strict;
+  external = q.external;
+  path = include_path q.files [];
+}
 
 -- by what a build adds
 abbrev pub built_by : Layout → Added → (others : List SearchPath) → Built
@@ -127,7 +139,7 @@ asked_named gives language command q l =
 abbrev pub asked_of : {S : Type 0} → Gives S → Language → Command → Question → Limits → Step S Asked
 asked_of gives language command q l =
     unless (has_headers command && not (are_ends q)) no_ends
-    (unless_reported (names_report language q.undefined) (asked_named gives language command q l))
+    (unless_reported (named_report language q) (asked_named gives language command q l))
 
 -- a question that nothing limits
 abbrev pub no_limits : Limits

@@ -39,7 +39,14 @@ asked_in paths layout question limits notes =
     record { paths = paths; layout = layout; question = question; limits = limits; notes = notes }
 
 abbrev pub opened_in : Opened → runs.Opened
-opened_in o = record { paths = map (λ p. p.now) o.paths.items; costs = o.costs.items; undefined = map (λ n. n.now) o.undefined.items; path = o.path }
+opened_in o = record {
+  paths = map (λ p. p.now) o.paths.items;
+  costs = o.costs.items;
+  undefined = map (λ n. n.now) o.undefined.items;
+  is_strict = o.is_strict;
+  external = map (λ n. n.now) o.external.items;
+  path = o.path;
+}
 
 abbrev pub built_in : Built → runs.Built
 built_in b = record { others = b.others.items; read_with = map (λ l. l.items) b.read_with.items; notes = b.notes.items }

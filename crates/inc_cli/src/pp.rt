@@ -1,9 +1,9 @@
 //! The preprocessing of sources of a project.
-ghost use Rattle.std.specs.Prelude.{◌≡◌, ◌≢◌, ◌++◌, ℕ, Err, List, false, map, IfOk};
+ghost use Rattle.std.specs.Prelude.{◌≡◌, ◌≢◌, ◌++◌, ℕ, Err, List, false, map, option_map, IfOk};
 ghost use Rattle.inc_args.specs.Views.{seen_pp};
-ghost use Rattle.inc_pp.specs.Settings.{found_in_settings, marked_settings, usual_settings};
+ghost use Rattle.inc_pp.specs.Settings.{found_in_settings, limited_settings, marked_settings, usual_settings};
 ghost use Rattle.inc_cli.specs.Outputs.{IsRun};
-ghost use Rattle.inc_cli.specs.Preprocessings.{IsPreprocessed, PrintsEach, all_words, missing_of, pp_apart, pp_asked, pp_found, pp_named, pp_of, searched, with_texts, writes_beside, writes_texts};
+ghost use Rattle.inc_cli.specs.Preprocessings.{IsPreprocessed, PrintsEach, all_words, bound_of, is_no_bound, missing_of, pp_apart, pp_asked, pp_bounded, pp_found, pp_named, pp_of, searched, with_texts, writes_beside, writes_texts};
 ghost use Rattle.inc_inputs.specs.Reports.{out_of_memory};
 ghost use Rattle.inc_inputs.specs.BuildProjects.{with_macros};
 ghost use Rattle.inc_inputs.specs.Steps.{Comes, next_of};
@@ -14,6 +14,7 @@ use crate::answers::Answer;
 use crate::questions::end_of;
 use crate::runs::Setup;
 use inc_args::PpArgs;
+use inc_check::number_in;
 use inc_inputs::{
     BuildProject, Failure, Inputs, ListedFiles, MacroWord, PpTexts, are_no_files, are_one,
     are_twice, bytes_of, find_preprocessing, include_path, list_paths, listed_project, path_end_in,
@@ -36,6 +37,24 @@ pub(crate) fn preprocess<I: Inputs, O: ByteSink>(
     requires { O.has_failed out ≡ false }
     ensures { seen_end result.0 ≢ Err out_of_memory →
         IsRun (pp_of I.gives setup.now.language (seen_pp args.now)) (IsPreprocessed I.gives I.puts (seen_pp args.now)) inputs
+        (output_of (O.written out) (O.written result.1) (O.has_failed result.1)) (seen_end result.0) }
+{
+    if is_no_bound(args.most_read) {
+        return (Err(Failure::NoMostRead), out);
+    }
+    preprocess_bounded(setup, args, inputs, out)
+}
+
+/// The same where the word for how many bytes are read is a number.
+fn preprocess_bounded<I: Inputs, O: ByteSink>(
+    setup: &Setup<'_>,
+    args: &PpArgs<'_>,
+    inputs: I,
+    out: O,
+) -> (Result<Answer, Failure>, O)
+    requires { O.has_failed out ≡ false }
+    ensures { seen_end result.0 ≢ Err out_of_memory →
+        IsRun (pp_bounded I.gives setup.now.language (seen_pp args.now)) (IsPreprocessed I.gives I.puts (seen_pp args.now)) inputs
         (output_of (O.written out) (O.written result.1) (O.has_failed result.1)) (seen_end result.0) }
 {
     if are_no_files(args.deps, args.status) {
@@ -274,14 +293,33 @@ fn missing_of(is_empty: bool) -> Missing
     }
 }
 
+/// The number that a word is that bounds a preprocessing, if it is given and is one.
+fn bound_of(word: Option<&str>) -> Option<u64>
+    ensures { result ≡ bound_of (option_map (λ w. w.now) word.entry) }
+{
+    match number_in(word?.as_bytes()) {
+        Some(most) => Some(u64::from(most)),
+        None => None,
+    }
+}
+
+/// Whether such a word is given that is no number.
+fn is_no_bound(word: Option<&str>) -> bool
+    ensures { result ≡ is_no_bound (option_map (λ w. w.now) word.entry) }
+{
+    word.is_some() && bound_of(word).is_none()
+}
+
 /// How sources are preprocessed, by the words, with this include path.
 fn settings_of<'n>(setup: &Setup<'_>, args: &PpArgs<'_>, dirs: &'n [NamedDir<'n>]) -> Settings<'n>
     ensures { let p = seen_pp args.now in result ≡ found_in_settings dirs.now
-        (marked_settings p.has_markers (usual_settings setup.now.language (missing_of p.is_missing_empty))) }
+        (limited_settings (bound_of p.most_read)
+        (marked_settings p.has_markers (usual_settings setup.now.language (missing_of p.is_missing_empty)))) }
 {
     let usual = Settings::usual(setup.language, missing_of(args.is_missing_empty));
     let marked = usual.with_markers(args.has_markers);
-    marked.with_dirs(dirs)
+    let limited = marked.with_most_read(bound_of(args.most_read));
+    limited.with_dirs(dirs)
 }
 
 /// The include path by the words and by what describes a compiler.

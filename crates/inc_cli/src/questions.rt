@@ -28,7 +28,7 @@ use inc_graph::{Cost, Mark};
 use inc_inputs::{
     Added, BuildProject, EndPaths, Failure, Hindrance, Inputs, ListedFiles, Places, Texts,
     are_ends, are_twice, asked_ends, asked_places, bytes_of_words, costs_of, find_question,
-    include_path, list_paths, listed_project, names_failure, other_paths, path_end_in, read_texts,
+    include_path, list_paths, listed_project, named_failure, other_paths, path_end_in, read_texts,
     read_texts_beside, read_with,
 };
 use inc_lookup::{IncludePath, NamedPath, Project};
@@ -123,6 +123,10 @@ struct Opened<'t> {
     costs: Vec<Cost<'t>>,
     /// The names that no build defines.
     undefined: Vec<&'t [u8]>,
+    /// Whether a header that is not found is refused.
+    is_strict: bool,
+    /// The globs of the names of those that are not.
+    external: Vec<&'t [u8]>,
     /// The include path.
     path: NamedPath<'t>,
 }
@@ -150,7 +154,7 @@ pub(crate) fn ask<I: Inputs, O: ByteSink>(
         question,
         limits,
     };
-    match names_failure(setup.alloc, setup.language, &question.undefined) {
+    match named_failure(setup.alloc, setup.language, question) {
         Some(failure) => (Err(failure), out),
         None => ask_named(setup, asking, inputs, out),
     }
@@ -415,6 +419,8 @@ fn ask_placed<'p, I: Inputs, O: ByteSink>(
         undefined: &opened.undefined,
         others: &built.others,
         read_with: &built.read_with,
+        is_strict: opened.is_strict,
+        external: &opened.external,
     };
     let limits = Limits {
         fixed: &placed.places.fixed,
@@ -515,6 +521,8 @@ fn open_texts<'t>(
     ensures paths { IfOk result (λ opened. map (λ p. p.now) opened.paths.items
         ≡ paths_in (seen_question question.now).files list.now) }
     ensures undefined { IfOk result (λ opened. map (λ n. n.now) opened.undefined.items ≡ (seen_question question.now).undefined) }
+    ensures strict { IfOk result (λ opened. opened.is_strict ≡ (seen_question question.now).is_strict) }
+    ensures external { IfOk result (λ opened. map (λ n. n.now) opened.external.items ≡ (seen_question question.now).external) }
     ensures path { IfOk result (λ opened. opened.path ≡ include_path (seen_question question.now).files []) }
     ensures fault { IfErr result (λ failure.
         AreCosts (unwrap_or (seen_limits limits.now).costs []) costs.now (Err (report_of failure))) }
@@ -523,11 +531,14 @@ fn open_texts<'t>(
     let costs = costs_of(alloc, costs, limits.costs.unwrap_or(""))?;
     let paths = list_paths(alloc, list, path_end_in(&question.files))?;
     let undefined = bytes_of_words(alloc, &question.undefined)?;
+    let external = bytes_of_words(alloc, &question.external)?;
     let path = include_path(alloc, setup.seed, &question.files, &[])?;
     Ok(Opened {
         paths,
         costs,
         undefined,
+        is_strict: question.is_strict,
+        external,
         path,
     })
 }

@@ -1,5 +1,5 @@
 -- Directories of a project, one more at a time.
-use Rattle.std.proofs.Common.{◌≡◌, ℕ, ◌+◌, ◌<◌, Option, List, [], ◌∷◌, ◌++◌, codes, length, drop, get_or, map, refl, sym, ap, ◌∙◌}
+use Rattle.std.proofs.Common.{◌≡◌, ℕ, Bool, ◌+◌, ◌<◌, Option, List, [], ◌∷◌, ◌++◌, codes, length, drop, get_or, map, refl, sym, ap, ◌∙◌}
 use Rattle.std.proofs.lemmas.List.{drop_more}
 use Rattle.inc_build.specs.declared.compiler_words.Kind.{Kind}
 use Rattle.inc_inputs.specs.BuildNotes.{Kept, none, with_lines}
@@ -49,8 +49,8 @@ pub project_made : (g : Ground) (files headers : List (List ℕ)) (words : FileW
 project_made g files headers words c own used list hs ms a d e h i j k = rw (k, j, i, h, e, d) refl
 
 -- a question and a preprocessing, part by part
-pub question_made : (f : Found) (q : Question) (files : FileWords) (source header without : Option (List ℕ)) (from to drops undefined : List (List ℕ))
+pub question_made : (f : Found) (q : Question) (files : FileWords) (source header without : Option (List ℕ)) (from to drops external undefined : List (List ℕ)) (strict : Bool)
     → files ≡ found_files f → source ≡ in_place q.source f.sources → header ≡ in_place q.header f.headers
-    → from ≡ unless_named q.source f.sources → to ≡ unless_named q.header f.headers → without ≡ q.without → drops ≡ q.drop → undefined ≡ q.undefined
-    → (let p : Question = record { files = files; source = source; header = header; from = from; to = to; without = without; drop = drops; undefined = undefined } in p) ≡ found_question f q
-question_made f q files source header without from to drops undefined a b c d e g h i = rw (a, b, c, d, e, g, h, i) refl
+    → from ≡ unless_named q.source f.sources → to ≡ unless_named q.header f.headers → without ≡ q.without → drops ≡ q.drop → external ≡ q.external → undefined ≡ q.undefined → strict ≡ q.is_strict
+    → (let p : Question = record { files = files; source = source; header = header; from = from; to = to; without = without; drop = drops; is_strict = strict; external = external; undefined = undefined } in p) ≡ found_question f q
+question_made f q files source header without from to drops external undefined strict a b c d e g h i j k = rw (a, b, c, d, e, g, h, i, j, k) refl

@@ -8,6 +8,7 @@ pub mod BuildReports
 pub mod BuildSteps
 pub mod Defines
 pub mod Ends
+pub mod ExternalNames
 pub mod HeaderNames
 pub mod IncludePath
 pub mod Inputs

@@ -86,6 +86,9 @@ no_format = record { message = codes "--format is text, gcc, json or dot"; statu
 abbrev pub no_most : Report
 no_most = record { message = codes "--max is a number"; status = 2 }
 
+abbrev pub no_most_read : Report
+no_most_read = record { message = codes "--most-read is a number"; status = 2 }
+
 abbrev pub no_scan_format : Report
 no_scan_format = record { message = codes "--format of scan is text, gcc or json"; status = 2 }
 
@@ -153,6 +156,7 @@ report_of failure.TwoForms = two_forms
 report_of failure.FormatOfFiles = format_of_files
 report_of failure.NoFormat = no_format
 report_of failure.NoMost = no_most
+report_of failure.NoMostRead = no_most_read
 report_of failure.NoScanFormat = no_scan_format
 report_of failure.TwoLanguages = two_languages
 report_of failure.TwoLists = two_lists

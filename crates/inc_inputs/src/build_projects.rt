@@ -422,6 +422,7 @@ impl BuildProject {
         let (sources, headers) = self.ends(alloc)?;
         let drop = Vec::from_slice(alloc, &question.drop)?;
         let undefined = Vec::from_slice(alloc, &question.undefined)?;
+        let external = Vec::from_slice(alloc, &question.external)?;
         let source = in_place(question.source, &sources);
         let header = in_place(question.header, &headers);
         let from = unless_named(alloc, question.source, sources);
@@ -434,6 +435,8 @@ impl BuildProject {
             to,
             without: question.without,
             drop,
+            is_strict: question.is_strict,
+            external,
             undefined,
         })
     }
@@ -460,6 +463,7 @@ impl BuildProject {
             words,
             is_missing_empty: args.is_missing_empty,
             has_markers: args.has_markers,
+            most_read: args.most_read,
             deps: args.deps,
             status: args.status,
         })

@@ -71,6 +71,8 @@ pub enum Failure {
     NoScanFormat,
     /// How many chains are printed at most is no number.
     NoMost,
+    /// How many bytes are read at most is no number.
+    NoMostRead,
     /// The files are said to be in two languages.
     TwoLanguages,
     /// The files are listed, and are to be found below folders.
@@ -366,6 +368,7 @@ impl Failure {
             Failure::FormatOfFiles => (b"--format excludes --blank and --patch", b""),
             Failure::NoFormat => (b"--format is text, gcc, json or dot", b""),
             Failure::NoMost => (b"--max is a number", b""),
+            Failure::NoMostRead => (b"--most-read is a number", b""),
             Failure::NoScanFormat => (b"--format of scan is text, gcc or json", b""),
             Failure::TwoLanguages => (b"--extended and --gnu exclude each other", b""),
             Failure::TwoLists => (b"--files and --root exclude each other", b""),
@@ -395,6 +398,7 @@ impl Failure {
             | Failure::FormatOfFiles
             | Failure::NoFormat
             | Failure::NoMost
+            | Failure::NoMostRead
             | Failure::NoScanFormat
             | Failure::TwoLanguages
             | Failure::TwoLists

@@ -135,19 +135,19 @@ module _ (settings : Settings) (one two : Listing) (without others : List Direct
   named n layout header = found_place layout (path_at layout at.file) header.form (search_after n at.next) header.name
 
   -- how what was found is read
-  abbrev entering : Layout → Here → List ℕ → Option Found × State → Result (Option Entry × State) Cause
-  entering layout h name q = Ok (option_map (entry_in layout settings at.file h name) q.0, q.1)
+  abbrev entering : Layout → (line : ℕ) → Here → List ℕ → Option Found × State → Result (Option Entry × State) Cause
+  entering layout line h name q = Ok (option_map (entry_in layout settings (record { file = at.file; line = line }) h name) q.0, q.1)
 
-  abbrev found : IncludeName → File → Here → Layout → Header × State → Result (Option Entry × State) Cause
-  found n k h layout r = led_to n k r.1 (named n layout r.0) >>= entering layout h r.0.name
+  abbrev found : IncludeName → File → (line : ℕ) → Here → Layout → Header × State → Result (Option Entry × State) Cause
+  found n k line h layout r = led_to n k r.1 (named n layout r.0) >>= entering layout line h r.0.name
 
   target_same : (n : IncludeName) (target : Target) (l : FileLine) (s : State) (h : Here)
       → include_target n target f l s h ≡ include_target n target g (unplaced l) s h
   target_same n target l s h =
-      ap (λ (r : Result (Header × State) Cause). r >>= found n f h (layout_of one)) (header_same target l s h)
-      ∙ ap (λ (layout : Layout). header_of target g (unplaced l) s h >>= found n f h layout) layouts
-      ∙ then_same (header_of target g (unplaced l) s h) (found n f h (layout_of two)) (found n g h (layout_of two))
-      (λ r. ap (λ (x : Result (Option Found × State) Cause). x >>= entering (layout_of two) h r.0.name)
+      ap (λ (r : Result (Header × State) Cause). r >>= found n f (line_of_tokens l.tokens) h (layout_of one)) (header_same target l s h)
+      ∙ ap (λ (layout : Layout). header_of target g (unplaced l) s h >>= found n f (line_of_tokens l.tokens) h layout) layouts
+      ∙ then_same (header_of target g (unplaced l) s h) (found n f (line_of_tokens l.tokens) h (layout_of two)) (found n g (line_of_tokens l.tokens) h (layout_of two))
+      (λ r. ap (λ (x : Result (Option Found × State) Cause). x >>= entering (layout_of two) (line_of_tokens l.tokens) h r.0.name)
       (led_same n r.1 (named n (layout_of two) r.0)))
 
   changed_same : (k : DirectiveKind) (l : FileLine) (s : State) (h : Here)

@@ -1,12 +1,14 @@
 -- The preprocessing of a project in whose files the removed directives are blanked is that of the old one without them.
-use Rattle.std.proofs.Common.{◌≡◌, ℕ, zero, suc, ◌+◌, ◌==◌, ◌&&◌, ◌||◌, ◌++◌, append-nil, Bool, List, [], ◌∷◌, Some, None, Result, Ok, Err, slice_get, refl, sym, ap, ◌∙◌, arith}
+use Rattle.std.proofs.Common.{◌≡◌, ℕ, zero, suc, ◌+◌, ◌==◌, ◌&&◌, ◌||◌, ◌++◌, append-nil, Bool, true, false, List, [], ◌∷◌, Some, None, Result, Ok, Err, slice_get, refl, sym, ap, ◌∙◌, arith, length}
 use Rattle.std.specs.Option.{option_map_or}
 use Rattle.std.proofs.Math.Path.{fun_ext}
 use Rattle.std.proofs.lemmas.List.Folds.{list_any-append}
 use Rattle.inc_text.specs.PhaseText.{phase_text}
 use Rattle.inc_text.specs.declared.languages.Language.{Language}
 use Rattle.inc_token.specs.declared.lines.LexFault.{LexFault}
+use Rattle.inc_token.specs.Blanking.{ranges_of}
 use Rattle.inc_token.specs.TokenLines.{TokenLine, token_lines}
+use Rattle.inc_token.proofs.BlankedBytes.{blanked-length}
 use Rattle.inc_token.proofs.BlankedLines.{blanked-lines}
 use Rattle.inc_directive.specs.BlankedSources.{blanked_by, blanked_source}
 use Rattle.inc_directive.specs.declared.sections.BalanceFault.{BalanceFault}
@@ -19,8 +21,8 @@ use Rattle.inc_macro.specs.Macros.{no_macros}
 use Rattle.inc_macro.specs.Results.{◌>>=◌}
 use Rattle.inc_pp.specs.BlankedProjects.{BlankingIsRemoval, BlankingSomeIsRemoval, blanked_files, blanked_listing}
 use Rattle.inc_pp.specs.Files.{FileFault, lines_or_fault, of_balance, text_tree, tree_of, tree_of_lines}
-use Rattle.inc_pp.specs.Preprocessing.{file_read, most_depth, outcome_of, preprocessing, reading, tree_read, with_read, with_words, named_settings, source_read}
-use Rattle.inc_pp.specs.Settings.{Settings}
+use Rattle.inc_pp.specs.Preprocessing.{counted_read, sized_read, file_read, most_depth, outcome_of, preprocessing, reading, tree_read, with_read, with_words, named_settings, source_read}
+use Rattle.inc_pp.specs.Settings.{Settings, is_too_much}
 use Rattle.inc_pp.specs.Tasks.{Deeper, Halt, State, Entry, Task, begun, source_at, start}
 use Rattle.inc_pp.proofs.BareReadings.{bare_result, then_same, tree_same}
 use Rattle.inc_pp.proofs.BareTrees.{bare_lines, bare_tree, lines_replaced, tree_bare}
@@ -60,6 +62,10 @@ trees_same language removed others source = by (token_lines language (phase_text
       ∙ sym (lines_bare language (with_removed language (λ n. removed n || others n) ls))
 
 ---- projects
+
+length_blanked : (language : Language) (removed : ℕ → Bool) (r : Result (List TokenLine) LexFault) (source : List ℕ) → length (blanked_by language removed r source) ≡ length source
+length_blanked language removed (Ok ls) source = blanked-length 0 (ranges_of (is_removed language removed) ls) source
+length_blanked language removed (Err fault) source = refl
 
 bytes_blanked : (language : Language) (without : List DirectiveId) (files : List SourceFile) (k i j : ℕ) → j ≡ k + i
     → option_map_or (λ (f : SourceFile). f.bytes) (slice_get (blanked_files language without k files) i) []
@@ -104,19 +110,37 @@ module _ (settings : Settings) (listing : Listing) (without others : List Direct
       ∙ ap (λ (removed : ℕ → Bool). bare_result (text_tree settings.language removed
       (phase_text settings.language (bytes_at listing i)))) (sym (listed i))
 
-  file_same : (deeper : Deeper) (to : Entry) (s : State) → file_read new deeper to s ≡ file_read old deeper to s
-  file_same deeper to s =
+  -- blanking changes no length
+  size_blanked : (i : ℕ) → length (bytes_at blank i) ≡ length (bytes_at listing i)
+  size_blanked i =
+      let zero_more : i ≡ 0 + i = omega arith in
+      ap length (bytes_blanked settings.language without listing.files 0 i i zero_more)
+      ∙ length_blanked settings.language (is_listed without i) (token_lines settings.language (phase_text settings.language (bytes_at listing i))) (bytes_at listing i)
+
+  -- a file that is added to the reads
+  counted_same : (much : Bool) (deeper : Deeper) (to : Entry) (s : State)
+      → counted_read much (record { task = new; index = to.at.file; next = to.at.next; deeper = deeper }) to (tree_of settings.language blank others to.at.file) s (start (layout_of blank) to)
+      ≡ counted_read much (record { task = old; index = to.at.file; next = to.at.next; deeper = deeper }) to (tree_of settings.language listing (without ++ others) to.at.file) s
+      (start (layout_of listing) to)
+  counted_same true deeper to s = refl
+  counted_same false deeper to s =
       tree_same settings blank blank others others refl to.at deeper (tree_of settings.language blank others to.at.file)
-      (with_read to.at.file s)
+      s
       (start (layout_of blank) to)
       ∙ ap (λ r. tree_read (record { task = new; index = to.at.file; next = to.at.next; deeper = deeper }) r
-      (with_read to.at.file s) (start (layout_of blank) to)) (tree_blanked to.at.file)
+      s (start (layout_of blank) to)) (tree_blanked to.at.file)
       ∙ sym (tree_same settings listing blank (without ++ others) others layouts to.at deeper
-      (tree_of settings.language listing (without ++ others) to.at.file) (with_read to.at.file s)
+      (tree_of settings.language listing (without ++ others) to.at.file) s
       (start (layout_of blank) to))
       ∙ ap (λ layout. tree_read (record { task = old; index = to.at.file; next = to.at.next; deeper = deeper })
-      (tree_of settings.language listing (without ++ others) to.at.file) (with_read to.at.file s) (start layout to))
+      (tree_of settings.language listing (without ++ others) to.at.file) s (start layout to))
       (sym layouts)
+
+  file_same : (deeper : Deeper) (to : Entry) (s : State) → file_read new deeper to s ≡ file_read old deeper to s
+  file_same deeper to s =
+      let size = length (bytes_at listing to.at.file) in
+      ap (λ n. sized_read n new deeper to s) (size_blanked to.at.file)
+      ∙ counted_same (is_too_much settings.most_read (s.bytes_read + size)) deeper to (with_read to.at.file size s)
 
   reading_same : (left : ℕ) (to : Entry) (s : State) → reading left new to s ≡ reading left old to s
   reading_same zero to s = file_same None to s

@@ -103,17 +103,18 @@ module _ (f : File) (l : FileLine) (s : State) (h : Here) (layout : Layout) (set
     put enter q = Ok (option_map enter q.0, q.1)
 
     abbrev enter : List ℕ → Found → Entry
-    enter name = entry_in layout settings from.file h name
+    enter name = entry_in layout settings (record { file = from.file; line = line_of_tokens l.tokens }) h name
 
-    enter-is : (name : List ℕ) → entered f h name ≡ enter name
+    enter-is : (name : List ℕ) → entered f (line_of_tokens l.tokens) h name ≡ enter name
     enter-is name =
-        ap (λ (lay : Layout). entry_in lay f.task.settings f.index h name) is.laid
-        ∙ ap (λ (st : Settings). entry_in layout st f.index h name) is.under ∙ ap (λ i. entry_in layout settings i h name) is.at
+        ap (λ (lay : Layout). entry_in lay f.task.settings (record { file = f.index; line = line_of_tokens l.tokens }) h name) is.laid
+        ∙ ap (λ (st : Settings). entry_in layout st (record { file = f.index; line = line_of_tokens l.tokens }) h name) is.under
+        ∙ ap (λ i. entry_in layout settings (record { file = i; line = line_of_tokens l.tokens }) h name) is.at
 
     -- from the header with the state after it
     headed : (r : Result (Header × State) Cause) → header_of target f l s h ≡ r →
-        include_target n target f l s h ≡ (r >>= λ x. led_to n f x.1 (found_from f n x.0) >>= put (entered f h x.0.name))
-    headed r e = ap (λ (q : Result (Header × State) Cause). q >>= λ x. led_to n f x.1 (found_from f n x.0) >>= put (entered f h x.0.name)) e
+        include_target n target f l s h ≡ (r >>= λ x. led_to n f x.1 (found_from f n x.0) >>= put (entered f (line_of_tokens l.tokens) h x.0.name))
+    headed r e = ap (λ (q : Result (Header × State) Cause). q >>= λ x. led_to n f x.1 (found_from f n x.0) >>= put (entered f (line_of_tokens l.tokens) h x.0.name)) e
 
     wanted-there : (t : State) (o : Option Found) → wanted n f t o ≡ wanted_at n settings.missing nests t o
     wanted-there t o =
@@ -132,14 +133,17 @@ module _ (f : File) (l : FileLine) (s : State) (h : Here) (layout : Layout) (set
           include_target n target f l s h ≡ ((w >>= λ at. Ok (at, after_found n o t)) >>= put (enter header.name))
       leads w g =
           headed (Ok (header, with_meter meter s)) (target-is (Ok (header, meter)) header_is)
-          ∙ ap (λ k. led_to n f (with_meter meter s) k >>= put (entered f h header.name)) (found-there header ∙ sym found_is)
-          ∙ ap (λ (u : State). led_to n f u o >>= put (entered f h header.name)) (sym kept)
-          ∙ ap (λ (r : Result (Option Found) Cause). (r >>= λ at. Ok (at, after_found n o t)) >>= put (entered f h header.name)) (wanted-there t o ∙ g)
+          ∙ ap (λ k. led_to n f (with_meter meter s) k >>= put (entered f (line_of_tokens l.tokens) h header.name)) (found-there header ∙ sym found_is)
+          ∙ ap (λ (u : State). led_to n f u o >>= put (entered f (line_of_tokens l.tokens) h header.name)) (sym kept)
+          ∙ ap (λ (r : Result (Option Found) Cause). (r >>= λ at. Ok (at, after_found n o t)) >>= put (entered f (line_of_tokens l.tokens) h header.name)) (wanted-there t o ∙ g)
           ∙ ap (λ (k : Found → Entry). (w >>= λ at. Ok (at, after_found n o t)) >>= put k) (enter-is header.name)
 
-      pub include-done : (new : State) (found : Option Found) (entry : Option Entry) → wanted_at n settings.missing nests t o ≡ Ok found → new ≡ after_found n o t →
-          entry ≡ option_map (enter header.name) found → control_line f l s h ≡ included f.deeper entry new h
-      include-done new found entry g after made =
+      pub include-done : (new : State) (found : Option Found) (line : ℕ) (entry : Option Entry) → wanted_at n settings.missing nests t o ≡ Ok found → new ≡ after_found n o t →
+          line ≡ line_of_tokens l.tokens → entry ≡ option_map (entry_in layout settings (record { file = from.file; line = line }) h header.name) found →
+          control_line f l s h ≡ included f.deeper entry new h
+      include-done new found line entry g after where_is given =
+          let made : entry ≡ option_map (enter header.name) found =
+          given ∙ ap (λ i. option_map (entry_in layout settings (record { file = from.file; line = i }) h header.name) found) where_is in
           include-is (Ok (option_map (enter header.name) found, after_found n o t)) (leads (Ok found) g)
           ∙ ap (λ (u : State). included f.deeper (option_map (enter header.name) found) u h) (sym after)
           ∙ ap (λ (e : Option Entry). included f.deeper e new h) (sym made)

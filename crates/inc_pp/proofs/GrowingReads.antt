@@ -1,10 +1,11 @@
 -- What a preprocessing has read stays the beginning of what it reads.
-use Rattle.std.proofs.Common.{◌≡◌, sym, ap, ◌∙◌, ℕ, zero, suc, ◌-◌, Bool, true, false, cond, List, [], ◌∷◌, ◌++◌, Option, Some, None, Result, Ok, Err, drop, length, map, nat_lt, ◌&&◌}
+use Rattle.std.proofs.Common.{◌≡◌, sym, ap, ◌∙◌, ℕ, zero, suc, ◌-◌, Bool, true, false, cond, List, [], ◌∷◌, ◌++◌, Option, Some, None, Result, Ok, Err, drop, length, map, nat_lt, ◌&&◌, ◌+◌}
 use Rattle.std.specs.List.{list_all}
 use Rattle.std.specs.Prelude.{IfSome}
 use Rattle.std.proofs.lemmas.List.{append_assoc, append-nil}
 use Rattle.inc_token.specs.declared.kinds.IncludeName.{IncludeName}
 use Rattle.inc_lookup.specs.declared.projects.Found.{Found}
+use Rattle.inc_lookup.specs.Projects.{bytes_at}
 use Rattle.inc_directive.specs.Groups.{FileLine, Group, Branches, Empty, Run, Control, Section, Branch, Otherwise, Close, Ending, FileEnd, Faulty, AtElif, AtElse, AtEndif, group_at}
 use Rattle.inc_directive.specs.LineKinds.{LineKind, Text, Include, Other, Target, Quoted, Angled, Nothing, line_of_tokens}
 use Rattle.inc_directive.specs.declared.kinds.DirectiveKind.{DirectiveKind}
@@ -25,7 +26,8 @@ use Rattle.inc_pp.specs.declared.frames.Frame.{Frame}
 use Rattle.inc_pp.specs.Directives.{after_pragma, line_operands, names_once, changed, control_of, ends_call, is_stacking, released_for, restacked, with_table}
 use Rattle.inc_pp.specs.Files.{FileFault, tree_of}
 use Rattle.inc_pp.specs.Includes.{Header, after_found, found_from, header_of, include_target, included, is_import, led_to}
-use Rattle.inc_pp.specs.Preprocessing.{group_read, section_read, tree_read, file_read, reading, most_depth, outcome_of, with_read}
+use Rattle.inc_pp.specs.Preprocessing.{group_read, section_read, tree_read, counted_read, file_read, reading, most_depth, outcome_of, with_read}
+use Rattle.inc_pp.specs.Settings.{is_too_much}
 use Rattle.inc_pp.specs.OpenCalls.{called_name, first_line_in, open_behind, spellings}
 use Rattle.inc_pp.specs.Pragmas.{Laid, laid}
 use Rattle.inc_pp.specs.Poison.{asked, asked_directive, is_poisonable, line_asked, names_poison, poison, poison_all, poisoned_by}
@@ -56,7 +58,7 @@ module _ (before : List ℕ) where
   abbrev IsOnHere : State × Here → Type 0
   IsOnHere r = IsOn r.0
 
-  with_one : (i : ℕ) (s : State) → IsOn s → IsOn (with_read i s)
+  with_one : (i : ℕ) (s : State) → IsOn s → Begins before (s.reads ++ (i ∷ []))
   with_one i s n = record { more = n.more ++ (i ∷ []); is = ap (λ xs. xs ++ (i ∷ [])) n.is ∙ append_assoc before n.more (i ∷ []) }
 
   ---- what reads no file
@@ -239,6 +241,11 @@ module _ (before : List ℕ) where
   tree_on f (Ok g) s h d n = holds_then (group_on f g s h d n) (λ r k. holds_then (waiting_on f (first_line_in r.1.waiting) r.0 r.1 k) (λ q i. holds_ok i))
   tree_on f (Err fault) s h d n = holds_halting f fault.1 s (Err fault.0) n keeps_err
 
+  counted_on : (much : Bool) (f : File) (to : Entry) (r : Result Group FileFault) (s : State) (h : Here) → IsDeeperOn f.deeper → IsOn s
+      → Holds IsOn IsOn (counted_read much f to r s h)
+  counted_on true f to r s h d n = record { outcome = n }
+  counted_on false f to r s h d n = tree_on f r s h d n
+
   ---- what is left of a file
 
   ending_on : (f : File) (e : Ending) (s : State) (h : Here) → IsDeeperOn f.deeper → IsOn s → Holds IsOnHere IsOn (ending_read f e s h)
@@ -253,12 +260,14 @@ module _ (before : List ℕ) where
 
   module _ (t : Task) where
     -- a file that was added to the reads is read on, and what it includes with it
-    entered_on : (deeper : Deeper) (to : Entry) (s : State) → IsDeeperOn deeper → IsOn (with_read to.at.file s) → Holds IsOn IsOn (file_read t deeper to s)
+    entered_on : (deeper : Deeper) (to : Entry) (s : State) → IsDeeperOn deeper → Begins before (s.reads ++ (to.at.file ∷ [])) → Holds IsOn IsOn (file_read t deeper to s)
     entered_on deeper to s d n =
-        tree_on (record { task = t; index = to.at.file; next = to.at.next; deeper = deeper }) (tree_of t.settings.language t.listing t.without to.at.file)
-        (with_read to.at.file s) (start (layout_in t) to) d n
+        let size = length (bytes_at t.listing to.at.file) in
+        counted_on (is_too_much t.settings.most_read (s.bytes_read + size))
+        (record { task = t; index = to.at.file; next = to.at.next; deeper = deeper }) to (tree_of t.settings.language t.listing t.without to.at.file)
+        (with_read to.at.file size s) (start (layout_in t) to) d n
 
-    reading_on : (left : ℕ) (to : Entry) (s : State) → IsOn (with_read to.at.file s) → Holds IsOn IsOn (reading left t to s)
+    reading_on : (left : ℕ) (to : Entry) (s : State) → Begins before (s.reads ++ (to.at.file ∷ [])) → Holds IsOn IsOn (reading left t to s)
     reading_on zero to s n = entered_on None to s tt n
     reading_on (suc left) to s n = entered_on (Some (reading left t)) to s (λ e u k. reading_on left e u (with_one e.at.file u k)) n
 

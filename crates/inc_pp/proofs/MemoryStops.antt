@@ -45,12 +45,12 @@ use Rattle.inc_pp.specs.Files.{FileFault, lines_or_fault, of_balance, text_tree,
 use Rattle.inc_pp.specs.Includes.{found_from, header_in, header_of, include_target, included, is_done, led_to, most_reads, not_found, wanted}
 use Rattle.inc_pp.specs.MemoryCauses.{IsNotMemory}
 use Rattle.inc_pp.specs.Pragmas.{Laid, after_literal, after_name, after_open, before, is_operator, laid, line_behind, plain, pragma_line, pragma_text, pragma_tokens, tokens_or_bad, where_fits, is_stacking, names_once, restacked, stacked, stacked_name}
-use Rattle.inc_pp.specs.Preprocessing.{group_read, section_read, tree_read, file_read, reading, most_depth, outcome_of, preprocessing, with_read, named_settings, source_read}
+use Rattle.inc_pp.specs.Preprocessing.{group_read, section_read, tree_read, counted_read, file_read, reading, most_depth, outcome_of, preprocessing, with_read, named_settings, source_read}
 use Rattle.inc_pp.specs.OpenCalls.{called_name, first_line_in, open_behind, spellings}
 use Rattle.inc_pp.specs.Poison.{asked, asked_directive, is_poisonable, is_poisoned, line_asked, names_poison, poison_all, poisoned_by, poisons}
 use Rattle.inc_pp.specs.Runs.{closed_or, expanded, is_unclosed, line_of_run, marks_in, released, released_at, run_expanded, run_given, run_opened, run_read, text_read, tokens_read, with_waiting}
 use Rattle.inc_pp.specs.Sections.{condition_of, first_name, if_defined, if_not_defined, if_true, is_taken, operands}
-use Rattle.inc_pp.specs.Settings.{Settings}
+use Rattle.inc_pp.specs.Settings.{Settings, is_too_much}
 use Rattle.inc_pp.specs.Tasks.{Task, State, Entry, Here, Halt, Deeper, File, begun, caused, halting, layout_in, place_of, search_of, source_at, start}
 
 abbrev Has : {A : Type 0} → Result A Cause → Type 0
@@ -398,10 +398,16 @@ tree_has f (Ok g) s h d k =
     then_halts (group_read f g s h) _ (group_has f g s h d) (λ r. then_halts (released f r.0 r.1) _ (waiting_has f (first_line_in r.1.waiting) r.0 r.1) (λ q. tt))
 tree_has f (Err fault) s h d k = k
 
+counted_has : (much : Bool) (f : File) (to : Entry) (r : Result Group FileFault) (s : State) (h : Here) → DeeperHas f.deeper → FileHas r → Halts (counted_read much f to r s h)
+counted_has true f to r s h d k = tt
+counted_has false f to r s h d k = tree_has f r s h d k
+
 file_has : (t : Task) (deeper : Deeper) (to : Entry) (s : State) → DeeperHas deeper → Halts (file_read t deeper to s)
 file_has t deeper to s d =
-    tree_has (record { task = t; index = to.at.file; next = to.at.next; deeper = deeper }) (tree_of t.settings.language t.listing t.without to.at.file)
-    (with_read to.at.file s) (start (layout_in t) to) d
+    let size = length (bytes_at t.listing to.at.file) in
+    counted_has (is_too_much t.settings.most_read (s.bytes_read + size))
+    (record { task = t; index = to.at.file; next = to.at.next; deeper = deeper }) to (tree_of t.settings.language t.listing t.without to.at.file)
+    (with_read to.at.file size s) (start (layout_in t) to) d
     (text_has t.settings.language (is_listed t.without to.at.file) (phase_text t.settings.language (bytes_at t.listing to.at.file)))
 
 reading_has : (left : ℕ) (t : Task) (to : Entry) (s : State) → Halts (reading left t to s)

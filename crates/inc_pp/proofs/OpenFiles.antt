@@ -1,5 +1,5 @@
 -- The files that are being read: what their rest is, as one is read on, entered or ended.
-use Rattle.std.proofs.Common.{◌≡◌, ◌≢◌, ℕ, zero, suc, ◌-◌, ◌<◌, Bool, true, false, List, [], ◌∷◌, Some, Result, Ok, Err, is_some, nat_lt, refl, ap, sym, ◌∙◌, length, arith}
+use Rattle.std.proofs.Common.{◌≡◌, ◌≢◌, ℕ, zero, suc, ◌+◌, ◌-◌, ◌<◌, Bool, true, false, List, [], ◌∷◌, Some, Result, Ok, Err, is_some, nat_lt, refl, ap, sym, ◌∙◌, length, arith}
 use Rattle.std.specs.List.{All}
 use Rattle.std.specs.Option.{option_map_or}
 use Rattle.std.proofs.lemmas.Bool.{lt-ltb, le-ltb, ltb-true, ltb-false}
@@ -8,14 +8,16 @@ use Rattle.inc_directive.specs.declared.sections.BalanceFault.{BalanceFault}
 use Rattle.inc_directive.specs.Parts.{FilePart, lines_from, lines_of_parts}
 use Rattle.inc_directive.specs.Groups.{FileLine, Group, Ending, FileEnd, Faulty, AtElif, AtElse, AtEndif, whole, group_at, group_tree}
 use Rattle.inc_lookup.specs.declared.projects.Found.{Found}
+use Rattle.inc_lookup.specs.Projects.{bytes_at}
 use Rattle.inc_macro.specs.Results.{◌>>=◌}
 use Rattle.inc_pp.specs.declared.frames.Frame.{Frame}
 use Rattle.inc_pp.specs.Files.{FileFault, tree_of}
 use Rattle.inc_pp.specs.Includes.{included}
-use Rattle.inc_pp.specs.Preprocessing.{group_read, tree_read, with_read, file_read, most_depth, reading}
+use Rattle.inc_pp.specs.Preprocessing.{group_read, tree_read, with_read, much_halt, counted_read, sized_read, file_read, most_depth, reading}
 use Rattle.inc_pp.specs.Runs.{released}
+use Rattle.inc_pp.specs.Settings.{is_too_much}
 use Rattle.inc_pp.specs.Stops.{halt_at, IsIn}
-use Rattle.inc_pp.specs.Tasks.{Task, File, State, Entry, Here, Halt, layout_in, start}
+use Rattle.inc_pp.specs.Tasks.{Task, File, State, Entry, Here, Halt, Deeper, layout_in, start}
 use Rattle.inc_pp.specs.WalkJobs.{first_frame}
 use Rattle.inc_pp.specs.Walks.{ending_read, lines_read, Held, held_at, parts_in, deeper_at, file_at, open_read, all_read}
 use Rattle.inc_pp.proofs.Walking.{then_then, then_ap}
@@ -122,26 +124,48 @@ tree_from f ls g s h is =
     sym (ap (λ (x : Group × Ending). (group_read f x.0 s h >>= λ r. ending_read f x.1 r.0 r.1) >>= λ r. Ok r.0) (whole_is (group_at ls) g is)
     ∙ then_then (group_read f g s h) (λ r. released f r.0 r.1) (λ r. Ok r.0))
 
+-- what a file that is entered is, by whether it is too much
+counted-is : (t : Task) (deeper : Deeper) (to : Entry) (size : ℕ) (s : State) (much : Bool) → length (bytes_at t.listing to.at.file) ≡ size
+    → is_too_much t.settings.most_read (s.bytes_read + size) ≡ much
+    → file_read t deeper to s
+    ≡ counted_read much (record { task = t; index = to.at.file; next = to.at.next; deeper = deeper }) to
+    (tree_of t.settings.language t.listing t.without to.at.file) (with_read to.at.file size s) (start (layout_in t) to)
+counted-is t deeper to size s much long is =
+    ap (λ n. sized_read n t deeper to s) long
+    ∙ ap (λ b. counted_read b (record { task = t; index = to.at.file; next = to.at.next; deeper = deeper }) to
+    (tree_of t.settings.language t.listing t.without to.at.file) (with_read to.at.file size s) (start (layout_in t) to)) is
+
+-- a file that is too much ends all of them
+pub all-much : (t : Task) (held : Held) (os : List Frame) (deeper : Deeper) (to : Entry) (size : ℕ) (s : State)
+    → length (bytes_at t.listing to.at.file) ≡ size → is_too_much t.settings.most_read (s.bytes_read + size) ≡ true
+    → all_read t held os (file_read t deeper to s) ≡ Err (much_halt to (with_read to.at.file size s))
+all-much t held os deeper to size s long much =
+    all-same t held os _ _ (counted-is t deeper to size s true long much) ∙ all-stop t held os (much_halt to (with_read to.at.file size s))
+
 -- a file that is held is entered
-pub all-entered : (t : Task) (held : Held) (os : List Frame) (to : Entry) (depth : ℕ) (ls : List FilePart) (g : Group) (s : State) (new : Frame)
-    → depth ≡ length os → held_at held to.at.file ≡ Some ls → group_tree (lines_of_parts ls) ≡ Ok g → tree_of t.settings.language t.listing t.without to.at.file ≡ Ok g
+pub all-entered : (t : Task) (held : Held) (os : List Frame) (to : Entry) (depth : ℕ) (ls : List FilePart) (g : Group) (size : ℕ) (s : State) (new : Frame)
+    → depth ≡ length os → held_at held to.at.file ≡ Some ls
+    → length (bytes_at t.listing to.at.file) ≡ size → is_too_much t.settings.most_read (s.bytes_read + size) ≡ false → group_tree (lines_of_parts ls) ≡ Ok g → tree_of t.settings.language t.listing t.without to.at.file ≡ Ok g
     → new ≡ first_frame (layout_in t) to
-    → all_read t held os (file_read t (deeper_at t (most_depth - depth)) to s) ≡ all_read t held (new ∷ os) (Ok (with_read to.at.file s))
-all-entered t held os to depth ls g s new deep there tree same is =
+    → all_read t held os (file_read t (deeper_at t (most_depth - depth)) to s) ≡ all_read t held (new ∷ os) (Ok (with_read to.at.file size s))
+all-entered t held os to depth ls g size s new deep there long few tree same is =
     all-same t held os _ _
-    (ap (λ r. tree_read (file_at t to.at depth) r (with_read to.at.file s) (start (layout_in t) to)) same
-    ∙ tree_from (file_at t to.at depth) (lines_of_parts ls) g (with_read to.at.file s) (start (layout_in t) to) tree
-    ∙ ap (λ k. lines_read (file_at t to.at k) (lines_of_parts ls) (with_read to.at.file s) (start (layout_in t) to) >>= λ r. Ok r.0) deep
-    ∙ ap (λ o. lines_read (file_at t to.at (length os)) (lines_of_parts (option_map_or (λ xs. xs) o [])) (with_read to.at.file s) (start (layout_in t) to) >>= λ r. Ok r.0) (sym there)
-    ∙ ap (λ o. open_read t held o (length os) (with_read to.at.file s)) (sym is))
+    (counted-is t (deeper_at t (most_depth - depth)) to size s false long few
+    ∙ ap (λ r. tree_read (file_at t to.at depth) r (with_read to.at.file size s) (start (layout_in t) to)) same
+    ∙ tree_from (file_at t to.at depth) (lines_of_parts ls) g (with_read to.at.file size s) (start (layout_in t) to) tree
+    ∙ ap (λ k. lines_read (file_at t to.at k) (lines_of_parts ls) (with_read to.at.file size s) (start (layout_in t) to) >>= λ r. Ok r.0) deep
+    ∙ ap (λ o. lines_read (file_at t to.at (length os)) (lines_of_parts (option_map_or (λ xs. xs) o [])) (with_read to.at.file size s) (start (layout_in t) to) >>= λ r. Ok r.0) (sym there)
+    ∙ ap (λ o. open_read t held o (length os) (with_read to.at.file size s)) (sym is))
 
 -- a file with a fault is entered
-pub all-bad : (t : Task) (held : Held) (os : List Frame) (to : Entry) (depth : ℕ) (fault : FileFault) (s : State)
+pub all-bad : (t : Task) (held : Held) (os : List Frame) (to : Entry) (depth : ℕ) (fault : FileFault) (size : ℕ) (s : State)
+    → length (bytes_at t.listing to.at.file) ≡ size → is_too_much t.settings.most_read (s.bytes_read + size) ≡ false
     → tree_of t.settings.language t.listing t.without to.at.file ≡ Err fault
-    → all_read t held os (file_read t (deeper_at t (most_depth - depth)) to s) ≡ Err (halt_at (file_at t to.at depth) (with_read to.at.file s) fault.1 fault.0)
-all-bad t held os to depth fault s is =
-    all-same t held os _ _ (ap (λ r. tree_read (file_at t to.at depth) r (with_read to.at.file s) (start (layout_in t) to)) is)
-    ∙ all-stop t held os (halt_at (file_at t to.at depth) (with_read to.at.file s) fault.1 fault.0)
+    → all_read t held os (file_read t (deeper_at t (most_depth - depth)) to s) ≡ Err (halt_at (file_at t to.at depth) (with_read to.at.file size s) fault.1 fault.0)
+all-bad t held os to depth fault size s long few is =
+    all-same t held os _ _ (counted-is t (deeper_at t (most_depth - depth)) to size s false long few
+    ∙ ap (λ r. tree_read (file_at t to.at depth) r (with_read to.at.file size s) (start (layout_in t) to)) is)
+    ∙ all-stop t held os (halt_at (file_at t to.at depth) (with_read to.at.file size s) fault.1 fault.0)
 
 -- more files are held
 pub all-held : (t : Task) (held held' : Held) (os : List Frame) (r : Result State Halt) → All (λ (o : Frame). parts_in held o.at.file ≡ parts_in held' o.at.file) os

@@ -1,5 +1,5 @@
 -- What is known of a preprocessing by what was read so far.
-use Rattle.std.proofs.Common.{◌≡◌, ◌≢◌, ◌⊎◌, inl, inr, ◌==◌, Bool, true, false, ℕ, zero, suc, ◌<◌, List, [], ◌∷◌, ◌++◌, Option, Some, None, Result, Ok, Err, IfOk, refl, ap, sym, ◌∙◌, subst, length, length-set, set, get_or, get_or-set_same, get_or-set_other, option_and_then, Contains, arith}
+use Rattle.std.proofs.Common.{◌≡◌, ◌≢◌, ◌⊎◌, inl, inr, ◌==◌, Bool, true, false, ℕ, zero, suc, ◌<◌, List, [], ◌∷◌, ◌++◌, Option, Some, None, Result, Ok, Err, IfOk, refl, ap, sym, ◌∙◌, subst, length, length-set, set, get_or, get_or-set_same, get_or-set_other, option_and_then, option_map, Contains, arith}
 use Rattle.std.specs.List.{All}
 use Rattle.std.proofs.lemmas.Bool.{eqb-true, eqb-false}
 use Rattle.std.proofs.lemmas.List.Elements.{All-nil, All-cons, All-head, All-tail, Contains-append_left, Contains-push, Contains-push_cases, Contains-append_right}
@@ -13,13 +13,15 @@ use Rattle.inc_lookup.specs.declared.projects.DirectiveId.{DirectiveId}
 use Rattle.inc_lookup.specs.Given.{Given, Agrees, FailsAfter, IsOnce}
 use Rattle.inc_lookup.specs.Projects.{Layout, Listing, layout_of, bytes_at}
 use Rattle.inc_lookup.proofs.GivenLemmas.{laid_count, bare_listing, laid_bare, with_bytes, laid_with, agrees_more}
+use Rattle.inc_pp.specs.declared.faults.Break.{Break}
+use Rattle.inc_pp.specs.declared.faults.Break.TheVariants as end
 use Rattle.inc_pp.specs.Files.{FileFault, text_tree, tree_of}
 use Rattle.inc_pp.specs.Preprocessing.{Outcome, most_depth, outcome_of, reading}
 use Rattle.inc_pp.specs.Readings.{IsOfReadsAfter}
 use Rattle.inc_pp.specs.Shared.{AreHeld, AreShared, AreUnread, HaveTrees}
-use Rattle.inc_pp.specs.Stops.{AreOf}
+use Rattle.inc_pp.specs.Stops.{AreOf, IfUnread}
 use Rattle.inc_pp.specs.Tasks.{Task, State, Halt, source_at, begun}
-use Rattle.inc_pp.specs.Walks.{Held, held_at, fault_at, known_at, if_parts, if_fault}
+use Rattle.inc_pp.specs.Walks.{Known, Held, held_at, fault_at, known_at, if_parts, if_fault}
 use Rattle.inc_pp.specs.WalkStates.{Job, task_of, whole_of, AreRead, IsReading, IsOver}
 
 -- an element of a list with one more in front
@@ -35,22 +37,22 @@ known_by : (held : Held) (i : ℕ) → known_at held i ≡ get_or held i None
 known_by [] i = refl
 known_by (o ∷ os) zero = by o
   where
-    by : (o : Option (Result (List FilePart) FileFault)) → option_and_then (λ x. x) (Some o) ≡ o
+    by : (o : Option Known) → option_and_then (λ x. x) (Some o) ≡ o
     by o = refl
 known_by (o ∷ os) (suc i) = known_by os i
 
-known-same : (held : Held) (file : ℕ) (r : Result (List FilePart) FileFault) → file < length held → known_at (set held file (Some r)) file ≡ Some r
+pub known-same : (held : Held) (file : ℕ) (r : Known) → file < length held → known_at (set held file (Some r)) file ≡ Some r
 known-same held file r low = known_by (set held file (Some r)) file ∙ get_or-set_same held file (Some r) None low
 
-known-other : (held : Held) (file i : ℕ) (r : Result (List FilePart) FileFault) → i ≢ file → known_at (set held file (Some r)) i ≡ known_at held i
+known-other : (held : Held) (file i : ℕ) (r : Known) → i ≢ file → known_at (set held file (Some r)) i ≡ known_at held i
 known-other held file i r ne = known_by (set held file (Some r)) i ∙ get_or-set_other held file i (Some r) None ne ∙ sym (known_by held i)
 
 -- what is known of a file, once one more is
-known-set : (held : Held) (file i : ℕ) (r q : Result (List FilePart) FileFault) → file < length held → known_at (set held file (Some r)) i ≡ Some q
+known-set : (held : Held) (file i : ℕ) (r q : Known) → file < length held → known_at (set held file (Some r)) i ≡ Some q
     → ((i ≡ file) × (q ≡ r)) ⊎ ((i ≢ file) × (known_at held i ≡ Some q))
 known-set held file i r q low at = by (i == file) refl
   where
-    some_is : (o : Option (Result (List FilePart) FileFault)) → o ≡ Some r → o ≡ Some q → q ≡ r
+    some_is : (o : Option Known) → o ≡ Some r → o ≡ Some q → q ≡ r
     some_is o a b = let e : Some r ≡ Some q = sym a ∙ b in cc
 
     by : (b : Bool) → (i == file) ≡ b → ((i ≡ file) × (q ≡ r)) ⊎ ((i ≢ file) × (known_at held i ≡ Some q))
@@ -59,45 +61,65 @@ known-set held file i r q low at = by (i == file) refl
         inl (same, some_is (known_at (set held file (Some r)) file) (known-same held file r low) (ap (λ k. known_at (set held file (Some r)) k) (sym same) ∙ at))
     by false e = let ne = eqb-false i file e in inr (ne, sym (known-other held file i r ne) ∙ at)
 
-pub held-same : (held : Held) (file : ℕ) (ls : List FilePart) → file < length held → held_at (set held file (Some (Ok ls))) file ≡ Some ls
-held-same held file ls low = ap (λ o. option_and_then if_parts o) (known-same held file (Ok ls) low)
-
-pub held-other : (held : Held) (file i : ℕ) (ls : List FilePart) → i ≢ file → held_at (set held file (Some (Ok ls))) i ≡ held_at held i
-held-other held file i ls ne = ap (λ o. option_and_then if_parts o) (known-other held file i (Ok ls) ne)
-
-pub fault-same : (held : Held) (file : ℕ) (fault : FileFault) → file < length held → fault_at (set held file (Some (Err fault))) file ≡ Some fault
-fault-same held file fault low = ap (λ o. option_and_then if_fault o) (known-same held file (Err fault) low)
-
--- what the lines of a file are, or its fault, by what is known of it
-pub known_lines : (o : Option (Result (List FilePart) FileFault)) (ls : List FilePart) → option_and_then if_parts o ≡ Some ls → o ≡ Some (Ok ls)
-known_lines (Some (Ok ks)) ls is = cc
-known_lines (Some (Err fault)) ls is = cc
-known_lines None ls is = cc
-
-pub known_fault : (o : Option (Result (List FilePart) FileFault)) (fault : FileFault) → option_and_then if_fault o ≡ Some fault → o ≡ Some (Err fault)
-known_fault (Some (Ok ks)) fault is = cc
-known_fault (Some (Err other)) fault is = cc
-known_fault None fault is = cc
-
--- a file without lines and without a fault is not known
-pub known_none : (held : Held) (i : ℕ) → held_at held i ≡ None → fault_at held i ≡ None → known_at held i ≡ None
-known_none held i = by (known_at held i)
-  where
-    by : (o : Option (Result (List FilePart) FileFault)) → option_and_then if_parts o ≡ None → option_and_then if_fault o ≡ None → o ≡ None
-    by (Some (Ok ks)) a b = cc
-    by (Some (Err fault)) a b = cc
-    by None a b = refl
-
-pub held-none : (held : Held) (i : ℕ) → known_at held i ≡ None → held_at held i ≡ None
-held-none held i none = ap (λ o. option_and_then if_parts o) none
-
 neither : {A : Type 0} (o : Option A) {x : A} → o ≡ None → o ≢ Some x
 neither o a = λ b. cc
+
+-- the parts of a file by what is known of it, and its fault
+abbrev parts_of : Option Known → Option (List FilePart)
+parts_of o = option_and_then (λ (k : Known). if_parts k.lines) o
+
+abbrev fault_of : Option Known → Option FileFault
+fault_of o = option_and_then (λ (k : Known). if_fault k.lines) o
+
+pub held-other : (held : Held) (file i : ℕ) (k : Known) → i ≢ file → held_at (set held file (Some k)) i ≡ held_at held i
+held-other held file i k ne = ap parts_of (known-other held file i k ne)
+
+-- what is known of a file that has lines, or a fault, or so many bytes
+pub known_lines : (o : Option Known) (ls : List FilePart) → parts_of o ≡ Some ls → (k : Known) × (o ≡ Some k) × (k.lines ≡ Ok ls)
+known_lines (Some k) ls is = (k, refl, by k.lines is)
+  where
+    by : (r : Result (List FilePart) FileFault) → if_parts r ≡ Some ls → r ≡ Ok ls
+    by (Ok ks) is = cc
+    by (Err fault) is = cc
+known_lines None ls is = absurd (neither None refl is)
+
+pub known_fault : (o : Option Known) (fault : FileFault) → fault_of o ≡ Some fault → (k : Known) × (o ≡ Some k) × (k.lines ≡ Err fault)
+known_fault (Some k) fault is = (k, refl, by k.lines is)
+  where
+    by : (r : Result (List FilePart) FileFault) → if_fault r ≡ Some fault → r ≡ Err fault
+    by (Ok ks) is = cc
+    by (Err other) is = cc
+known_fault None fault is = absurd (neither None refl is)
+
+pub known_size : (o : Option Known) (size : ℕ) → option_map (λ (k : Known). k.size) o ≡ Some size → (k : Known) × (o ≡ Some k) × (k.size ≡ size)
+known_size (Some k) size is = (k, refl, cc)
+known_size None size is = absurd (neither None refl is)
+
+pub known_less : (o : Option Known) → option_map (λ (k : Known). k.size) o ≡ None → o ≡ None
+known_less (Some k) is = absurd (neither None refl (sym is))
+known_less None is = refl
+
+-- what holds where a file was not read
+pub if-unread : (fault : Break) {P Q : ReadFault → Type 0} → ((why : ReadFault) → P why → Q why) → IfUnread fault P → IfUnread fault Q
+if-unread (end.Stop line cause) more h = tt
+if-unread (end.Unread why) more h = more why h
+if-unread end.NoMemory more h = tt
+
+-- a file that is known and has no fault has lines
+pub known_sound : (o : Option Known) (k : Known) → o ≡ Some k → fault_of o ≡ None → (ls : List FilePart) × (parts_of o ≡ Some ls)
+known_sound o k at none = by k.lines refl (sym (ap fault_of at) ∙ none)
+  where
+    by : (r : Result (List FilePart) FileFault) → k.lines ≡ r → if_fault k.lines ≡ None → (ls : List FilePart) × (parts_of o ≡ Some ls)
+    by (Ok ls) is sound = (ls, ap parts_of at ∙ ap if_parts is)
+    by (Err fault) is sound = absurd (neither (if_fault k.lines) sound (ap if_fault is))
+
+pub held-none : (held : Held) (i : ℕ) → known_at held i ≡ None → held_at held i ≡ None
+held-none held i none = ap parts_of none
 
 ---- one more file is known
 
 module _ (layout : Layout) (language : Language) (without : List DirectiveId) (held : Held) (file : ℕ) (bytes : List ℕ) (given : List Given) (low : file < length layout.paths)
-    (none : known_at held file ≡ None) (kept : AreHeld layout language held given) (r : Result (List FilePart) FileFault) where
+    (none : known_at held file ≡ None) (kept : AreHeld layout language held given) (r : Known) where
   abbrev pub this : Given
   this = record { file = file; bytes = bytes }
 
@@ -107,7 +129,7 @@ module _ (layout : Layout) (language : Language) (without : List DirectiveId) (h
   wide : file < length held
   wide = omega (arith, kept.wide, low)
 
-  pub kept-more : IfOk r (λ ps. AreOf language (lines_of_parts ps)) → AreHeld layout language after (this ∷ given)
+  pub kept-more : IfOk r.lines (λ ps. AreOf language (lines_of_parts ps)) → AreHeld layout language after (this ∷ given)
   kept-more kinds = record {
     wide = length-set held file (Some r) ∙ kept.wide;
     once = (kept.unread file none, kept.once);
@@ -118,24 +140,35 @@ module _ (layout : Layout) (language : Language) (without : List DirectiveId) (h
       | inl new ↦ (this, in_front this given, sym new.0)
       | inr old ↦ (let g = kept.read i q old.1 in (g.0, behind this given g.0 g.1, g.2))
     ];
-    of_language = λ i ks at. elim (known-set held file i r (Ok ks) wide (known_lines (known_at (set held file (Some r)) i) ks at)) [
-      | inl new ↦ subst (λ q. IfOk q (λ ps. AreOf language (lines_of_parts ps))) (sym new.1) kinds
-      | inr old ↦ kept.of_language i ks (ap (λ o. option_and_then if_parts o) old.1)
-    ];
+    of_language = λ i ks at.
+        let k = known_lines (known_at (set held file (Some r)) i) ks at in
+        elim (known-set held file i r k.0 wide k.1) [
+          | inl new ↦ subst (λ q. IfOk q (λ ps. AreOf language (lines_of_parts ps))) (sym (ap (λ (x : Known). x.lines) new.1) ∙ k.2) kinds
+          | inr old ↦ kept.of_language i ks (ap parts_of old.1 ∙ ap if_parts k.2)
+        ];
   }
 
   -- what the file turned out to be is what it is in the listing
   pub trees-more : (listing : Listing) → HaveTrees language without held listing
-      → ((ls : List FilePart) → r ≡ Ok ls → (g : Group) × (group_tree (lines_of_parts ls) ≡ Ok g) × (tree_of language listing without file ≡ Ok g))
-      → ((fault : FileFault) → r ≡ Err fault → tree_of language listing without file ≡ Err fault) → HaveTrees language without after listing
-  trees-more listing trees is_tree is_fault = record {
-    trees = λ i ks at. elim (known-set held file i r (Ok ks) wide (known_lines (known_at (set held file (Some r)) i) ks at)) [
-      | inl new ↦ (let is = is_tree ks (sym new.1) in (is.0, is.1, ap (λ k. tree_of language listing without k) new.0 ∙ is.2))
-      | inr old ↦ trees.trees i ks (ap (λ o. option_and_then if_parts o) old.1)
-    ];
-    faults = λ i fault at. elim (known-set held file i r (Err fault) wide (known_fault (known_at (set held file (Some r)) i) fault at)) [
-      | inl new ↦ ap (λ k. tree_of language listing without k) new.0 ∙ is_fault fault (sym new.1)
-      | inr old ↦ trees.faults i fault (ap (λ o. option_and_then if_fault o) old.1)
+      → ((ls : List FilePart) → r.lines ≡ Ok ls → (g : Group) × (group_tree (lines_of_parts ls) ≡ Ok g) × (tree_of language listing without file ≡ Ok g))
+      → ((fault : FileFault) → r.lines ≡ Err fault → tree_of language listing without file ≡ Err fault)
+      → length (bytes_at listing file) ≡ r.size → HaveTrees language without after listing
+  trees-more listing trees is_tree is_fault long = record {
+    trees = λ i ks at.
+        let k = known_lines (known_at (set held file (Some r)) i) ks at in
+        elim (known-set held file i r k.0 wide k.1) [
+          | inl new ↦ (let is = is_tree ks (sym (ap (λ (x : Known). x.lines) new.1) ∙ k.2) in (is.0, is.1, ap (λ n. tree_of language listing without n) new.0 ∙ is.2))
+          | inr old ↦ trees.trees i ks (ap parts_of old.1 ∙ ap if_parts k.2)
+        ];
+    faults = λ i fault at.
+        let k = known_fault (known_at (set held file (Some r)) i) fault at in
+        elim (known-set held file i r k.0 wide k.1) [
+          | inl new ↦ ap (λ n. tree_of language listing without n) new.0 ∙ is_fault fault (sym (ap (λ (x : Known). x.lines) new.1) ∙ k.2)
+          | inr old ↦ trees.faults i fault (ap fault_of old.1 ∙ ap if_fault k.2)
+        ];
+    sizes = λ i k at. elim (known-set held file i r k wide at) [
+      | inl new ↦ ap (λ n. length (bytes_at listing n)) new.0 ∙ long ∙ sym (ap (λ (x : Known). x.size) new.1)
+      | inr old ↦ trees.sizes i k old.1
     ];
   }
 
@@ -154,11 +187,12 @@ shared-unread gives first layout language without held unread = record {
     once = tt;
     unread = λ i is. All-nil (λ (g : Given). g.file ≢ i);
     read = λ i r is. absurd (neither (known_at held i) (unread.none i) is);
-    of_language = λ i ls is. absurd (neither (known_at held i) (unread.none i) (known_lines (known_at held i) ls is));
+    of_language = λ i ls is. absurd (neither (held_at held i) (held-none held i (unread.none i)) is);
   };
   trees = λ listing laid agrees. record {
-    trees = λ i ls is. absurd (neither (known_at held i) (unread.none i) (known_lines (known_at held i) ls is));
-    faults = λ i fault is. absurd (neither (known_at held i) (unread.none i) (known_fault (known_at held i) fault is));
+    trees = λ i ls is. absurd (neither (held_at held i) (held-none held i (unread.none i)) is);
+    faults = λ i fault is. absurd (neither (fault_at held i) (ap fault_of (unread.none i)) is);
+    sizes = λ i k is. absurd (neither (known_at held i) (unread.none i) is);
   };
 }
 
@@ -177,11 +211,11 @@ module _ {S : Type 0} (gives : S → ℕ → Result (List ℕ) ReadFault → S �
   tree-given listing agrees =
       ap (λ bs. text_tree language (is_listed without file) (phase_text language bs)) (All-head (λ (g : Given). bytes_at listing g.file ≡ g.bytes) one given agrees)
 
-  pub shared-more : (r : Result (List FilePart) FileFault) → IfOk r (λ ps. AreOf language (lines_of_parts ps))
-      → ((ls : List FilePart) → r ≡ Ok ls → (g : Group) × (group_tree (lines_of_parts ls) ≡ Ok g) × (text_tree language (is_listed without file) (phase_text language bytes) ≡ Ok g))
-      → ((fault : FileFault) → r ≡ Err fault → text_tree language (is_listed without file) (phase_text language bytes) ≡ Err fault)
+  pub shared-more : (r : Known) → length bytes ≡ r.size → IfOk r.lines (λ ps. AreOf language (lines_of_parts ps))
+      → ((ls : List FilePart) → r.lines ≡ Ok ls → (g : Group) × (group_tree (lines_of_parts ls) ≡ Ok g) × (text_tree language (is_listed without file) (phase_text language bytes) ≡ Ok g))
+      → ((fault : FileFault) → r.lines ≡ Err fault → text_tree language (is_listed without file) (phase_text language bytes) ≡ Err fault)
       → AreShared gives first later layout language without (set held file (Some r)) (one ∷ given)
-  shared-more r kinds is_tree is_fault = record {
+  shared-more r long kinds is_tree is_fault = record {
     gave = (now, shared.gave, step);
     witness = with_bytes shared.witness file bytes;
     laid_out = laid_with layout shared.witness file bytes shared.laid_out;
@@ -190,7 +224,8 @@ module _ {S : Type 0} (gives : S → ℕ → Result (List ℕ) ReadFault → S �
     trees = λ listing laid agrees.
         let is = tree-given listing agrees in
         trees-more layout language without held file bytes given low none shared.kept r listing (shared.trees listing laid (agrees-before listing agrees))
-        (λ ls e. let t = is_tree ls e in (t.0, t.1, is ∙ t.2)) (λ fault e. is ∙ is_fault fault e);
+        (λ ls e. let t = is_tree ls e in (t.0, t.1, is ∙ t.2)) (λ fault e. is ∙ is_fault fault e)
+        (ap length (All-head (λ (g : Given). bytes_at listing g.file ≡ g.bytes) one given agrees) ∙ long);
   }
 
 ---- what was read
@@ -246,7 +281,7 @@ module _ {S : Type 0} (gives : S → ℕ → Result (List ℕ) ReadFault → S �
     }
 
     -- a file is read again that is held
-    pub reading-again : (file : ℕ) (q : Result (List FilePart) FileFault) (next : Task → Result State Halt) → known_at held file ≡ Some q
+    pub reading-again : (file : ℕ) (q : Known) (next : Task → Result State Halt) → known_at held file ≡ Some q
         → ((listing : Listing) → layout_of listing ≡ j.layout → HaveTrees j.settings.language j.without held listing → left (task_of j listing) ≡ next (task_of j listing))
         → IsReading gives old new j held (reads ++ file ∷ []) next
     unfolding reading-on
@@ -256,14 +291,14 @@ module _ {S : Type 0} (gives : S → ℕ → Result (List ℕ) ReadFault → S �
 
     -- one more file is read: it has a tree, or else a fault
     pub reading-more : (later : S) (file : ℕ) (bytes : List ℕ) → file < length j.layout.paths → known_at held file ≡ None → gives new file (Ok bytes) later
-        → (q : Result (List FilePart) FileFault) → IfOk q (λ ps. AreOf j.settings.language (lines_of_parts ps))
-        → ((ls : List FilePart) → q ≡ Ok ls → (g : Group) × (group_tree (lines_of_parts ls) ≡ Ok g) × (text_tree j.settings.language (is_listed j.without file) (phase_text j.settings.language bytes) ≡ Ok g))
-        → ((fault : FileFault) → q ≡ Err fault → text_tree j.settings.language (is_listed j.without file) (phase_text j.settings.language bytes) ≡ Err fault)
+        → (q : Known) → length bytes ≡ q.size → IfOk q.lines (λ ps. AreOf j.settings.language (lines_of_parts ps))
+        → ((ls : List FilePart) → q.lines ≡ Ok ls → (g : Group) × (group_tree (lines_of_parts ls) ≡ Ok g) × (text_tree j.settings.language (is_listed j.without file) (phase_text j.settings.language bytes) ≡ Ok g))
+        → ((fault : FileFault) → q.lines ≡ Err fault → text_tree j.settings.language (is_listed j.without file) (phase_text j.settings.language bytes) ≡ Err fault)
         → (next : Task → Result State Halt)
         → ((listing : Listing) → layout_of listing ≡ j.layout → HaveTrees j.settings.language j.without (set held file (Some q)) listing
         → left (task_of j listing) ≡ next (task_of j listing))
         → IsReading gives old later j (set held file (Some q)) (reads ++ file ∷ []) next
-    reading-more later file bytes low none step q kinds is_tree is_fault next on = record {
+    reading-more later file bytes low none step q long kinds is_tree is_fault next on = record {
       given = record { file = file; bytes = bytes } ∷ r.given;
       shared = shared;
       read = read-more j.earlier reads r.given (record { file = file; bytes = bytes }) r.read;
@@ -273,7 +308,7 @@ module _ {S : Type 0} (gives : S → ℕ → Result (List ℕ) ReadFault → S �
     }
       where
         shared : AreShared gives old later j.layout j.settings.language j.without (set held file (Some q)) (record { file = file; bytes = bytes } ∷ r.given)
-        shared = shared-more gives old new later j.layout j.settings.language j.without held r.given file bytes r.shared low none step q kinds is_tree is_fault
+        shared = shared-more gives old new later j.layout j.settings.language j.without held r.given file bytes r.shared low none step q long kinds is_tree is_fault
 
     -- nothing is left
     pub reading-end : (o : Outcome) → reads ≡ o.reads

@@ -46,8 +46,8 @@ put-is f settings under h s ts =
 -- the state with what was put out, and the file perhaps among those that are read once
 abbrev noted : ℕ → State → (meter : Meter) → List OutToken → Bool → State
 noted file s meter now once =
-    if once then with_once file (record { table = s.table; once = s.once; poisoned = s.poisoned; meter = meter; reads = s.reads; output = now })
-    else record { table = s.table; once = s.once; poisoned = s.poisoned; meter = meter; reads = s.reads; output = now }
+    if once then with_once file (record { table = s.table; once = s.once; poisoned = s.poisoned; meter = meter; reads = s.reads; bytes_read = s.bytes_read; output = now })
+    else record { table = s.table; once = s.once; poisoned = s.poisoned; meter = meter; reads = s.reads; bytes_read = s.bytes_read; output = now }
 
 once_is : (file : ℕ) (s : State) (out : List OutToken) (meter : Meter) (once : Bool)
     → put_laid file (record { tokens = out; once = once }) (with_meter meter s) ≡ noted file s meter (s.output ++ out) once
@@ -120,7 +120,7 @@ module _ (f : File) (settings : Settings) (under : IsUnder settings f) (ts : Lis
 
 -- the meter and what was put out are as they were
 pub same-state : (s : State) (meter : Meter) (output : List OutToken) → meter ≡ s.meter → output ≡ s.output
-    → record { table = s.table; once = s.once; poisoned = s.poisoned; meter = meter; reads = s.reads; output = output } ≡ s
+    → record { table = s.table; once = s.once; poisoned = s.poisoned; meter = meter; reads = s.reads; bytes_read = s.bytes_read; output = output } ≡ s
 same-state s meter output m o =
-    ap (λ (x : Meter). record { table = s.table; once = s.once; poisoned = s.poisoned; meter = x; reads = s.reads; output = output }) m
-    ∙ ap (λ (ts : List OutToken). record { table = s.table; once = s.once; poisoned = s.poisoned; meter = s.meter; reads = s.reads; output = ts }) o
+    ap (λ (x : Meter). record { table = s.table; once = s.once; poisoned = s.poisoned; meter = x; reads = s.reads; bytes_read = s.bytes_read; output = output }) m
+    ∙ ap (λ (ts : List OutToken). record { table = s.table; once = s.once; poisoned = s.poisoned; meter = s.meter; reads = s.reads; bytes_read = s.bytes_read; output = ts }) o

@@ -1,5 +1,5 @@
 -- How a walk goes on: a file is entered, a line is read, a file ends, and why it is over.
-use Rattle.std.proofs.Common.{◌≡◌, ◌≢◌, ℕ, suc, ◌+◌, ◌-◌, ◌<◌, ◌≤◌, Bool, true, false, List, [], ◌∷◌, ◌++◌, Option, Some, None, IfSome, Result, Ok, Err, refl, ap, sym, ◌∙◌, subst, length, set, nat_lt, option_map, is_some, reverse, OnOk, IfErr, arith}
+use Rattle.std.proofs.Common.{◌≡◌, ◌≢◌, inl, inr, ℕ, suc, ◌+◌, ◌-◌, ◌<◌, ◌≤◌, Bool, true, false, List, [], ◌∷◌, ◌++◌, Option, Some, None, IfSome, Result, Ok, Err, refl, ap, sym, ◌∙◌, subst, length, length-set, set, nat_lt, option_map, reverse, OnOk, IfOk, IfErr, arith}
 use Rattle.std.specs.List.{All}
 use Rattle.std.specs.Option.{option_map_or}
 use Rattle.std.proofs.lemmas.Bool.{ltb-true}
@@ -7,14 +7,17 @@ use Rattle.std.proofs.lemmas.List.{reverse-append, length-reverse, length_push}
 use Rattle.std.proofs.lemmas.List.Elements.{All-cons, All-head, All-tail}
 use Rattle.inc_text.specs.PhaseText.{phase_text}
 use Rattle.inc_text.specs.declared.devices.ReadFault.{ReadFault}
+use Rattle.inc_text.specs.declared.languages.Language.{Language}
 use Rattle.inc_directive.specs.Groups.{Group, group_tree}
 use Rattle.inc_directive.specs.Parts.{FilePart, lines_from, lines_of_parts}
+use Rattle.inc_lookup.specs.declared.projects.DirectiveId.{DirectiveId}
 use Rattle.inc_lookup.specs.declared.projects.Found.{Found}
 use Rattle.inc_lookup.specs.DirectiveLists.{is_listed}
 use Rattle.inc_lookup.specs.Given.{Given, FailsAfter}
-use Rattle.inc_lookup.specs.Projects.{Listing, layout_of}
+use Rattle.inc_lookup.specs.Projects.{Listing, bytes_at, layout_of}
 use Rattle.inc_lookup.proofs.GivenLemmas.{given_all}
 use Rattle.inc_pp.specs.declared.causes.Cause.{Cause}
+use Rattle.inc_pp.specs.declared.causes.Cause.TheVariants.{TooMuchRead}
 use Rattle.inc_pp.specs.declared.frames.Frame.{Frame}
 use Rattle.inc_pp.specs.declared.faults.Break.{Break}
 use Rattle.inc_pp.specs.Choices.{StopsAt, LeadsTo}
@@ -23,19 +26,21 @@ use Rattle.inc_macro.specs.Results.{◌>>=◌}
 use Rattle.inc_pp.specs.Preprocessing.{outcome_of, with_read, file_read, most_depth}
 use Rattle.inc_pp.specs.Readings.{IsOfReadsAfter}
 use Rattle.inc_pp.specs.Runs.{released}
-use Rattle.inc_pp.specs.Stops.{AreOf, IfBadFile, IfStop, IfUnread, halt_at, IsIn, IsUnder}
-use Rattle.inc_pp.specs.Tasks.{File, State, Entry, Here}
-use Rattle.inc_pp.specs.Walks.{lines_read, Held, held_at, fault_at, known_at, parts_in, deeper_at, file_at, all_read}
+use Rattle.inc_pp.specs.Stops.{IfBadFile, IfStop, IfUnread, halt_at, IsIn, IsUnder}
+use Rattle.inc_pp.specs.Settings.{is_too_much}
+use Rattle.inc_pp.specs.Shared.{HaveTrees, IsKnownBy, IsLoadedBy}
+use Rattle.inc_pp.specs.Tasks.{File, State, Entry, Here, IsWithin}
+use Rattle.inc_pp.specs.Walks.{Known, lines_read, Held, held_at, fault_at, known_at, parts_in, deeper_at, file_at, all_read}
 use Rattle.inc_pp.specs.HeldFiles.{IsSkipped, NonePoisoned}
-use Rattle.inc_pp.specs.WalkJobs.{first_frame, frames_left, walk_left}
+use Rattle.inc_pp.specs.WalkJobs.{first_frame, frames_left, over_by, walk_left}
 use Rattle.inc_pp.specs.Includes.{included, most_reads}
 use Rattle.inc_pp.specs.declared.faults.Break.TheVariants as end
 use Rattle.inc_text.specs.declared.devices.ReadFault.TheVariants as read
 use Rattle.inc_pp.proofs.GrowingReads.{grows-entering}
-use Rattle.inc_pp.specs.WalkStates.{EndsBy, Job, task_of, IsReading, whole_of, AreOpen, IsWalk, IsEntering, IsOver}
+use Rattle.inc_pp.specs.WalkStates.{EndsBy, Job, task_of, IsReading, whole_of, AreOpen, IsWalk, IsEntering, IsCounted, IsOver}
 use Rattle.inc_pp.proofs.LineSteps.{step-done}
-use Rattle.inc_pp.proofs.OpenFiles.{all-on, all-done, all-halt, all-enter, all-entered, all-bad, all-held, is_in}
-use Rattle.inc_pp.proofs.Readings.{held-same, held-other, held-none, fault-same, known_lines, known_fault, reading-on, reading-again, reading-more, reading-end, reading-fails}
+use Rattle.inc_pp.proofs.OpenFiles.{all-on, all-done, all-halt, all-much, all-enter, all-entered, all-bad, all-held, is_in}
+use Rattle.inc_pp.proofs.Readings.{held-other, held-none, known-same, known_size, known_sound, reading-on, reading-again, reading-more, reading-end, reading-fails}
 use Rattle.inc_pp.proofs.Stepping.{included-none}
 use Rattle.inc_pp.proofs.StopSteps.{if-stop}
 
@@ -44,50 +49,23 @@ lines_are : (held : Held) (i : ℕ) (ls : List FilePart) → held_at held i ≡ 
 lines_are held i ls at = ap (λ o. option_map_or (λ xs. xs) o []) at
 
 -- what is open stays so when another file is held
-same_lines : (held : Held) (file : ℕ) (ls : List FilePart) (frames : List Frame) → held_at held file ≡ None → AreOpen held frames
-    → All (λ (o : Frame). parts_in held o.at.file ≡ parts_in (set held file (Some (Ok ls))) o.at.file) frames
-same_lines held file ls frames none are_open = λ k d low.
-    let at = are_open k d low in
-    ap (λ o. option_map_or (λ xs. xs) o []) (sym (held-other held file _ ls (λ e. not_both _ at.1 (ap (λ i. held_at held i) e ∙ none))))
+same_lines : (held : Held) (file : ℕ) (k : Known) (frames : List Frame) → held_at held file ≡ None → AreOpen held frames
+    → All (λ (o : Frame). parts_in held o.at.file ≡ parts_in (set held file (Some k)) o.at.file) frames
+same_lines held file k frames none are_open = λ i d low.
+    let at = are_open i d low in
+    ap (λ o. option_map_or (λ xs. xs) o []) (sym (held-other held file _ k (λ e. not_both _ at.1 (ap (λ n. held_at held n) e ∙ none))))
   where
     not_both : (o : Option (List FilePart)) {ks : List FilePart} → o ≡ Some ks → o ≡ None → ⊥
     not_both o a b = cc
 
-still_open : (held : Held) (file : ℕ) (ls : List FilePart) (frames : List Frame) → held_at held file ≡ None → AreOpen held frames
-    → AreOpen (set held file (Some (Ok ls))) frames
-still_open held file ls frames none are_open = λ k d low.
-    let at = are_open k d low in
-    (at.0, held-other held file _ ls (λ e. not_both _ at.1 (ap (λ i. held_at held i) e ∙ none)) ∙ at.1)
+still_open : (held : Held) (file : ℕ) (k : Known) (frames : List Frame) → held_at held file ≡ None → AreOpen held frames
+    → AreOpen (set held file (Some k)) frames
+still_open held file k frames none are_open = λ i d low.
+    let at = are_open i d low in
+    (at.0, held-other held file _ k (λ e. not_both _ at.1 (ap (λ n. held_at held n) e ∙ none)) ∙ at.1)
   where
     not_both : (o : Option (List FilePart)) {ks : List FilePart} → o ≡ Some ks → o ≡ None → ⊥
     not_both o a b = cc
-
--- what a file turned out to be is one thing
-lines_of_ok : (r : Result (List FilePart) FileFault) (ls ks : List FilePart) → r ≡ Ok ls → r ≡ Ok ks → ls ≡ ks
-lines_of_ok (Ok js) ls ks a b = cc
-lines_of_ok (Err other) ls ks a b = cc
-
-not_both : (r : Result (List FilePart) FileFault) (ls : List FilePart) (fault : FileFault) → r ≡ Ok ls → r ≡ Err fault → ⊥
-not_both (Ok ks) ls fault a b = cc
-not_both (Err other) ls fault a b = cc
-
-fault_of_err : (r : Result (List FilePart) FileFault) (x y : FileFault) → r ≡ Err x → r ≡ Err y → x ≡ y
-fault_of_err (Ok ks) x y a b = cc
-fault_of_err (Err other) x y a b = cc
-
--- a file that is held, and one that is not
-pub some_of : {A : Type 0} (view : A → List FilePart) (o : Option A) (b : Bool) (held : Held) (i : ℕ) → option_map view o ≡ held_at held i → b ≡ is_some o → b ≡ true
-    → (ls : List FilePart) × (held_at held i ≡ Some ls)
-some_of view (Some x) b held i is at on = (view x, sym is)
-some_of view None b held i is at on = let no : true ≡ false = sym on ∙ at in cc
-
-pub none_of : {A : Type 0} (view : A → List FilePart) (o : Option A) (b : Bool) (held : Held) (i : ℕ) → option_map view o ≡ held_at held i → b ≡ is_some o → b ≡ false
-    → held_at held i ≡ None
-none_of view None b held i is at off = sym is
-none_of view (Some x) b held i is at off = let no : false ≡ true = sym off ∙ at in cc
-
-pub no_fault : (o : Option FileFault) (held : Held) (i : ℕ) → o ≡ fault_at held i → o ≡ None → fault_at held i ≡ None
-no_fault o held i at is = sym at ∙ is
 
 -- a file whose lines are held
 pub held_is : {A : Type 0} (view : A → List FilePart) (o : Option A) (x : A) (held : Held) (i : ℕ) → option_map view o ≡ held_at held i → o ≡ Some x → held_at held i ≡ Some (view x)
@@ -99,6 +77,24 @@ within_held m n ls is low = omega (arith, is, low)
 
 pub some_past : (held : Held) (i m n : ℕ) (ls : List FilePart) → held_at held i ≡ Some ls → m ≡ length ls → m ≤ n → length (parts_in held i) ≤ n
 some_past held i m n ls at is low = let long : length (parts_in held i) ≡ length ls = ap length (lines_are held i ls at) in omega (arith, long, is, low)
+
+-- what holds of lines, or of a fault, where it is known that there are some
+of_lines : (r : Result (List FilePart) FileFault) (ls : List FilePart) (P : List FilePart → Type 0) → r ≡ Ok ls → IfOk r P → P ls
+of_lines r ls P is h = subst (λ q. IfOk q P) is h
+
+of_fault : (r : Result (List FilePart) FileFault) (fault : FileFault) (P : FileFault → Type 0) → r ≡ Err fault → IfErr r P → P fault
+of_fault r fault P is h = subst (λ q. IfErr q P) is h
+
+-- whether it is too much once a file is added to the reads
+pub much_by : (most : Option ℕ) (s t : State) (file size n : ℕ) (b much : Bool) → t ≡ with_read file size s → n ≡ t.bytes_read → b ≡ is_too_much most n → b ≡ much
+    → is_too_much most (s.bytes_read + size) ≡ much
+much_by most s t file size n b much added counted is on = ap (is_too_much most) (sym (counted ∙ ap (λ (x : State). x.bytes_read) added)) ∙ sym is ∙ on
+
+-- as many files are held as before
+pub known-wide : {S : Type 0} (gives : S → ℕ → Result (List ℕ) ReadFault → S → Type 0) (language : Language) (without : List DirectiveId) (file : ℕ) (old new : S) (held after : Held) (size : ℕ)
+    → IsKnownBy gives language without file old held new after size → length after ≡ length held
+known-wide gives language without file old new held after size (inl h) = ap length h.4
+known-wide gives language without file old new held after size (inr h) = ap length h.0.4 ∙ length-set held file _
 
 -- what follows of an answer
 pub on_ok : {A B : Type 0} (r : Result A B) {P Q : Type 0} → (P → Q) → OnOk r P → OnOk r Q
@@ -134,21 +130,23 @@ pub reverse-push : {A : Type 0} (items news : List A) (x : A) → news ≡ items
 reverse-push items news x is = ap reverse is ∙ reverse-append items (x ∷ [])
 
 -- what is left to read once another file is held
-left-set : (held : Held) (file : ℕ) (ls : List FilePart) (frames : List Frame) → All (λ (o : Frame). parts_in held o.at.file ≡ parts_in (set held file (Some (Ok ls))) o.at.file) frames
-    → frames_left (set held file (Some (Ok ls))) frames ≡ frames_left held frames
-left-set held file ls [] same = refl
-left-set held file ls (o ∷ os) same =
-    ap (λ xs. suc (length xs - o.part) + frames_left (set held file (Some (Ok ls))) os) (sym (All-head (λ (o : Frame). parts_in held o.at.file ≡ parts_in (set held file (Some (Ok ls))) o.at.file) o os same))
+left-set : (held : Held) (file : ℕ) (k : Known) (frames : List Frame) → All (λ (o : Frame). parts_in held o.at.file ≡ parts_in (set held file (Some k)) o.at.file) frames
+    → frames_left (set held file (Some k)) frames ≡ frames_left held frames
+left-set held file k [] same = refl
+left-set held file k (o ∷ os) same =
+    ap (λ xs. suc (length xs - o.part) + frames_left (set held file (Some k)) os) (sym (All-head (λ (o : Frame). parts_in held o.at.file ≡ parts_in (set held file (Some k)) o.at.file) o os same))
     ∙ ap (λ n. suc (length (parts_in held o.at.file) - o.part) + n)
-    (left-set held file ls os (All-tail (λ (o : Frame). parts_in held o.at.file ≡ parts_in (set held file (Some (Ok ls))) o.at.file) o os same))
+    (left-set held file k os (All-tail (λ (o : Frame). parts_in held o.at.file ≡ parts_in (set held file (Some k)) o.at.file) o os same))
 
-pub left-load : (held : Held) (file : ℕ) (ls : List FilePart) (frames : List Frame) (frame : Frame) (n : ℕ) → held_at held file ≡ None → AreOpen held frames → frame.at.file ≡ file
-    → n ≡ length (parts_in (set held file (Some (Ok ls))) file) → n < 18_446_744_073_709_551_616
-    → frames_left (set held file (Some (Ok ls))) (frame ∷ frames) ≤ frames_left held frames + 18_446_744_073_709_551_617
-left-load held file ls frames frame n none are_open at is low =
-    let same = left-set held file ls frames (same_lines held file ls frames none are_open) in
-    let long : length (parts_in (set held file (Some (Ok ls))) frame.at.file) ≡ n = ap (λ i. length (parts_in (set held file (Some (Ok ls))) i)) at ∙ sym is in
-    omega (arith, same, long, low)
+-- there is one more file to read
+pub left-first : (held after : Held) (frames : List Frame) (frame : Frame) (n : ℕ) → frames_left after frames ≡ frames_left held frames
+    → n ≡ length (parts_in after frame.at.file) → n < 18_446_744_073_709_551_616
+    → frames_left after (frame ∷ frames) ≤ frames_left held frames + 18_446_744_073_709_551_617
+left-first held after frames frame n same long low = omega (arith, same, long, low)
+
+pub left-same : (held after : Held) (frames : List Frame) → frames_left after frames ≡ frames_left held frames
+    → frames_left after frames ≤ frames_left held frames + 18_446_744_073_709_551_617
+left-same held after frames same = omega (arith, same)
 
 -- after a line there is less left
 pub left-step : (held : Held) (frames : List Frame) (frame next : Frame) (reads : ℕ) → next.at ≡ frame.at → frame.part < next.part → frame.part < length (parts_in held frame.at.file)
@@ -168,78 +166,68 @@ left-enter held after frames news frame next reads same onward low few less =
     omega (arith, long, onward, low, few, less)
 
 module _ {S : Type 0} (gives : S → ℕ → Result (List ℕ) ReadFault → S → Type 0) (old new : S) (j : Job) (held : Held) (frames : List Frame) where
-  ---- a file is entered
+  ---- a file is to be entered
 
   module _ (from : Entry) (s : State) (e : IsEntering gives old new j held frames from s) where
     -- it is held already
-    pub enter-again : (ls : List FilePart) (frame : Frame) → held_at held from.at.file ≡ Some ls → frame ≡ first_frame j.layout from
-        → IsWalk gives old new j held (frame ∷ frames) (with_read from.at.file s)
-    enter-again ls frame at is = record {
-      reading = reading-again gives old j new held s.reads _ e.reading from.at.file (Ok ls) (λ t. all_read t held (frame ∷ frames) (Ok (with_read from.at.file s)))
-          (known_lines (known_at held from.at.file) ls at)
-          (λ listing laid trees.
-          let tree = trees.trees from.at.file ls at in
-          all-entered (task_of j listing) held frames from (length frames) ls tree.0 s frame refl at tree.1 tree.2
-          (is ∙ ap (λ l. first_frame l from) (sym laid)));
-      are_open = All-cons (λ (o : Frame). (ks : List FilePart) × (held_at held o.at.file ≡ Some ks)) frame frames
-          (ls, ap (λ (o : Frame). held_at held o.at.file) is ∙ at) e.are_open;
-      deep = omega (arith, e.deep);
-      within = All-cons (λ (o : Frame). o.at.file < length j.layout.paths) frame frames (subst (λ (o : Frame). o.at.file < length j.layout.paths) (sym is) e.file_within) e.within;
+    counted-again : (k : Known) → known_at held from.at.file ≡ Some k → IsCounted gives old new j held frames from k.size s
+    counted-again k at = record {
+      reading = reading-again gives old j new held s.reads _ e.reading from.at.file k
+          (λ t. all_read t held frames (file_read t (deeper_at t (most_depth - length frames)) from s)) at (λ listing laid trees. refl);
+      are_open = e.are_open;
+      deep = e.deep;
+      within = e.within;
+      file_within = e.file_within;
+      sized = ap (λ o. option_map (λ (x : Known). x.size) o) at;
     }
 
-    -- its fault is known already
-    pub enter-faulty : (line : ℕ) (cause : Cause) → fault_at held from.at.file ≡ Some (cause, line)
-        → IsOver gives old new j held (record { tokens = s.output; reads = s.reads ++ from.at.file ∷ []; stop = Some (record { file = from.at.file; line = line; cause = cause }) })
-    enter-faulty line cause at =
-        reading-end gives old j new held (s.reads ++ from.at.file ∷ []) _
-        (reading-again gives old j new held s.reads _ e.reading from.at.file (Err (cause, line)) (λ t. Err (halt_at (file_at t from.at (length frames)) (with_read from.at.file s) line cause))
-        (known_fault (known_at held from.at.file) (cause, line) at)
-        (λ listing laid trees. all-bad (task_of j listing) held frames from (length frames) (cause, line) s (trees.faults from.at.file (cause, line) at)))
-        (record { tokens = s.output; reads = s.reads ++ from.at.file ∷ []; stop = Some (record { file = from.at.file; line = line; cause = cause }) }) refl
-        (λ listing laid trees. refl)
+    -- it has been read
+    counted-load : (later : S) (after : Held) (size : ℕ) → known_at held from.at.file ≡ None
+        → IsLoadedBy gives j.settings.language j.without from.at.file new held later after size → IsCounted gives old later j after frames from size s
+    counted-load later after size none l =
+        let k : Known = record { size = size; lines = l.1 } in
+        let wide : from.at.file < length held = omega (arith, e.reading.shared.kept.wide, e.file_within.0) in
+        let no_lines = held-none held from.at.file none in
+        subst (λ h. IsCounted gives old later j h frames from size s) (sym l.4) (record {
+          reading = reading-more gives old j new held s.reads _ e.reading later from.at.file l.0 e.file_within.0 none l.2 k l.3 l.5
+              (λ ls is. of_lines l.1 ls
+              (λ ps. (g : Group) × (group_tree (lines_of_parts ps) ≡ Ok g)
+              × (text_tree j.settings.language (is_listed j.without from.at.file) (phase_text j.settings.language l.0) ≡ Ok g)) is l.6)
+              (λ fault is. of_fault l.1 fault
+              (λ why. text_tree j.settings.language (is_listed j.without from.at.file) (phase_text j.settings.language l.0) ≡ Err why) is l.7)
+              (λ t. all_read t (set held from.at.file (Some k)) frames (file_read t (deeper_at t (most_depth - length frames)) from s))
+              (λ listing laid trees. all-held (task_of j listing) held (set held from.at.file (Some k)) frames _ (same_lines held from.at.file k frames no_lines e.are_open));
+          are_open = still_open held from.at.file k frames no_lines e.are_open;
+          deep = e.deep;
+          within = e.within;
+          file_within = e.file_within;
+          sized = ap (λ o. option_map (λ (x : Known). x.size) o) (known-same held from.at.file k wide);
+        })
 
-    module _ (later : S) (bytes : List ℕ) (none : known_at held from.at.file ≡ None) (step : gives new from.at.file (Ok bytes) later) where
-      -- it is read, and has a tree
-      pub enter-load : (ls : List FilePart) (tree : Group) (frame : Frame) → text_tree j.settings.language (is_listed j.without from.at.file) (phase_text j.settings.language bytes) ≡ Ok tree → group_tree (lines_of_parts ls) ≡ Ok tree
-          → AreOf j.settings.language (lines_of_parts ls) → frame ≡ first_frame j.layout from
-          → IsWalk gives old later j (set held from.at.file (Some (Ok ls))) (frame ∷ frames) (with_read from.at.file s)
-      enter-load ls tree frame has same kinds is =
-          let wide : from.at.file < length held = omega (arith, e.reading.shared.kept.wide, e.file_within) in
-          let at = held-same held from.at.file ls wide in
-          let no_lines = held-none held from.at.file none in
-          record {
-            reading = reading-more gives old j new held s.reads _ e.reading later from.at.file bytes e.file_within none step (Ok ls) kinds
-                (λ ks is. (tree, ap (λ ps. group_tree (lines_of_parts ps)) (sym (lines_of_ok (Ok ls) ls ks refl is)) ∙ same, has)) (λ fault is. absurd (not_both (Ok ls) ls fault refl is))
-                (λ t. all_read t (set held from.at.file (Some (Ok ls))) (frame ∷ frames) (Ok (with_read from.at.file s)))
-                (λ listing laid trees.
-                let there = trees.trees from.at.file ls at in
-                all-held (task_of j listing) held (set held from.at.file (Some (Ok ls))) frames _ (same_lines held from.at.file ls frames no_lines e.are_open)
-                ∙ all-entered (task_of j listing) (set held from.at.file (Some (Ok ls))) frames from (length frames) ls there.0 s frame refl at there.1 there.2
-                (is ∙ ap (λ l. first_frame l from) (sym laid)));
-            are_open = All-cons (λ (o : Frame). (ks : List FilePart) × (held_at (set held from.at.file (Some (Ok ls))) o.at.file ≡ Some ks)) frame frames
-                (ls, ap (λ (o : Frame). held_at (set held from.at.file (Some (Ok ls))) o.at.file) is ∙ at) (still_open held from.at.file ls frames no_lines e.are_open);
-            deep = omega (arith, e.deep);
-            within = All-cons (λ (o : Frame). o.at.file < length j.layout.paths) frame frames (subst (λ (o : Frame). o.at.file < length j.layout.paths) (sym is) e.file_within) e.within;
-          }
+    -- one of both
+    pub counted-known : (later : S) (after : Held) (size : ℕ) (language : Language) → language ≡ j.settings.language
+        → IsKnownBy gives language j.without from.at.file new held later after size → IsCounted gives old later j after frames from size s
+    counted-known later after size language is known = by (subst (λ l. IsKnownBy gives l j.without from.at.file new held later after size) is known)
+      where
+        by : IsKnownBy gives j.settings.language j.without from.at.file new held later after size → IsCounted gives old later j after frames from size s
+        by (inl h) =
+            subst (λ x. IsCounted gives old later j x frames from size s) (sym h.4)
+            (subst (λ x. IsCounted gives old x j held frames from size s) (sym h.3)
+            (subst (λ n. IsCounted gives old new j held frames from n s) h.2 (counted-again h.0 h.1)))
+        by (inr h) = counted-load later after size h.1 h.0
 
-      -- it is read, and has none
-      pub enter-bad : (line : ℕ) (cause : Cause) → text_tree j.settings.language (is_listed j.without from.at.file) (phase_text j.settings.language bytes) ≡ Err (cause, line)
-          → IsOver gives old later j (set held from.at.file (Some (Err (cause, line))))
-          (record { tokens = s.output; reads = s.reads ++ from.at.file ∷ []; stop = Some (record { file = from.at.file; line = line; cause = cause }) })
-      enter-bad line cause has =
-          let at = fault-same held from.at.file (cause, line) (omega (arith, e.reading.shared.kept.wide, e.file_within)) in
-          reading-end gives old j later (set held from.at.file (Some (Err (cause, line)))) (s.reads ++ from.at.file ∷ []) _
-          (reading-more gives old j new held s.reads _ e.reading later from.at.file bytes e.file_within none step (Err (cause, line)) tt
-          (λ ks is. absurd (not_both (Err (cause, line)) ks (cause, line) is refl)) (λ fault is. has ∙ ap (λ x. Err x) (fault_of_err (Err (cause, line)) (cause, line) fault refl is))
-          (λ t. Err (halt_at (file_at t from.at (length frames)) (with_read from.at.file s) line cause))
-          (λ listing laid trees. all-bad (task_of j listing) held frames from (length frames) (cause, line) s (trees.faults from.at.file (cause, line) at)))
-          (record { tokens = s.output; reads = s.reads ++ from.at.file ∷ []; stop = Some (record { file = from.at.file; line = line; cause = cause }) }) refl
-          (λ listing laid trees. refl)
+    -- what is left to read is the same then
+    pub left-known : (later : S) (after : Held) (size : ℕ) (language : Language) → IsKnownBy gives language j.without from.at.file new held later after size
+        → frames_left after frames ≡ frames_left held frames
+    left-known later after size language (inl h) = ap (λ x. frames_left x frames) h.4
+    left-known later after size language (inr h) =
+        ap (λ x. frames_left x frames) h.0.4
+        ∙ left-set held from.at.file _ frames (same_lines held from.at.file _ frames (held-none held from.at.file h.1) e.are_open)
 
     -- it cannot be read
-    pub enter-fails : (later : S) (fault : ReadFault) → known_at held from.at.file ≡ None → gives new from.at.file (Err fault) later → fault ≢ read.NoMemory
-        → EndsBy gives old later j held (with_read from.at.file s) from.at.file (end.Unread fault)
-    enter-fails later fault none step why = (
+    enter-fails : (later : S) (t : State) (fault : ReadFault) → known_at held from.at.file ≡ None → gives new from.at.file (Err fault) later → fault ≢ read.NoMemory
+        → EndsBy gives old later j held t from.at.file (end.Unread fault)
+    enter-fails later t fault none step why = (
       record {
         state = failing.state;
         before = given_all failing.before
@@ -254,7 +242,7 @@ module _ {S : Type 0} (gives : S → ℕ → Result (List ℕ) ReadFault → S �
             });
         failed = failing.failed;
       },
-      e.file_within,
+      e.file_within.0,
       why,
     )
       where
@@ -262,6 +250,65 @@ module _ {S : Type 0} (gives : S → ℕ → Result (List ℕ) ReadFault → S �
             (λ given listing. (whole_of j listing ≡ all_read (task_of j listing) held frames (file_read (task_of j listing) (deeper_at (task_of j listing) (most_depth - length frames)) from s))
             × IsOfReadsAfter j.earlier s.reads given × All (λ (g : Given). g.file ≢ from.at.file) given)
         failing = reading-fails gives old j new held s.reads _ e.reading later from.at.file fault none step
+
+    -- or memory has run out
+    pub enter-break : (later : S) (after : Held) (t : State) (why : Break) → IfBadFile why (λ line cause. ⊥)
+        → IfUnread why (λ fault. (known_at held from.at.file ≡ None) × (after ≡ held) × gives new from.at.file (Err fault) later × (fault ≢ read.NoMemory))
+        → EndsBy gives old later j after t from.at.file why
+    enter-break later after t (end.Stop line cause) bad unread = absurd bad
+    enter-break later after t (end.Unread fault) bad unread =
+        subst (λ h. EndsBy gives old later j h t from.at.file (end.Unread fault)) (sym unread.1) (enter-fails later t fault unread.0 unread.2 unread.3)
+    enter-break later after t end.NoMemory bad unread = tt
+
+  ---- a file that is held is entered
+
+  module _ (from : Entry) (size : ℕ) (s : State) (e : IsCounted gives old new j held frames from size s) where
+    -- with the bytes that it has in each listing
+    long_in : (listing : Listing) → HaveTrees j.settings.language j.without held listing → length (bytes_at listing from.at.file) ≡ size
+    long_in listing trees =
+        let k = known_size (known_at held from.at.file) size e.sized in
+        trees.sizes from.at.file k.0 k.1 ∙ k.2
+
+    -- too much was read with it
+    pub counted-much : is_too_much j.settings.most_read (s.bytes_read + size) ≡ true
+        → IsOver gives old new j held (over_by (with_read from.at.file size s) (Some (record { file = from.by.file; line = from.by.line; cause = TooMuchRead })))
+    counted-much much =
+        reading-end gives old j new held (s.reads ++ from.at.file ∷ []) _ e.reading
+        (over_by (with_read from.at.file size s) (Some (record { file = from.by.file; line = from.by.line; cause = TooMuchRead }))) refl
+        (λ listing laid trees. ap outcome_of (all-much (task_of j listing) held frames (deeper_at (task_of j listing) (most_depth - length frames)) from size s (long_in listing trees) much))
+
+    module _ (few : is_too_much j.settings.most_read (s.bytes_read + size) ≡ false) where
+      -- it has a tree
+      pub counted-open : (ls : List FilePart) (frame : Frame) → held_at held from.at.file ≡ Some ls → frame ≡ first_frame j.layout from
+          → IsWalk gives old new j held (frame ∷ frames) (with_read from.at.file size s)
+      counted-open ls frame at is = record {
+        reading = reading-on gives old j new held (s.reads ++ from.at.file ∷ []) _ e.reading (λ t. all_read t held (frame ∷ frames) (Ok (with_read from.at.file size s)))
+            (λ listing laid trees.
+            let tree = trees.trees from.at.file ls at in
+            all-entered (task_of j listing) held frames from (length frames) ls tree.0 size s frame refl at (long_in listing trees) few tree.1 tree.2
+            (is ∙ ap (λ l. first_frame l from) (sym laid)));
+        are_open = All-cons (λ (o : Frame). (ks : List FilePart) × (held_at held o.at.file ≡ Some ks)) frame frames
+            (ls, ap (λ (o : Frame). held_at held o.at.file) is ∙ at) e.are_open;
+        deep = omega (arith, e.deep);
+        within = All-cons (λ (o : Frame). o.at.file < length j.layout.paths) frame frames (subst (λ (o : Frame). o.at.file < length j.layout.paths) (sym is) e.file_within.0) e.within;
+      }
+
+      -- it has none
+      pub counted-faulty : (line : ℕ) (cause : Cause) → fault_at held from.at.file ≡ Some (cause, line)
+          → IsOver gives old new j held (over_by (with_read from.at.file size s) (Some (record { file = from.at.file; line = line; cause = cause })))
+      counted-faulty line cause at =
+          reading-end gives old j new held (s.reads ++ from.at.file ∷ []) _ e.reading
+          (over_by (with_read from.at.file size s) (Some (record { file = from.at.file; line = line; cause = cause }))) refl
+          (λ listing laid trees.
+          ap outcome_of (all-bad (task_of j listing) held frames from (length frames) (cause, line) size s (long_in listing trees) few (trees.faults from.at.file (cause, line) at)))
+
+      -- it has lines, as it has no fault
+      pub counted-sound : (frame : Frame) → fault_at held from.at.file ≡ None → frame ≡ first_frame j.layout from
+          → IsWalk gives old new j held (frame ∷ frames) (with_read from.at.file size s)
+      counted-sound frame none is =
+          let k = known_size (known_at held from.at.file) size e.sized in
+          let sound = known_sound (known_at held from.at.file) k.0 k.1 none in
+          counted-open sound.0 frame sound.1 is
 
   ---- the innermost file is read on
 
@@ -343,7 +390,7 @@ module _ {S : Type 0} (gives : S → ℕ → Result (List ℕ) ReadFault → S �
         }
 
         -- a line is read that leads to a file
-        pub walk-enter : (found : Option Entry) (to : Entry) → found ≡ Some to → to.at.file < length j.layout.paths → nests ≡ true
+        pub walk-enter : (found : Option Entry) (to : Entry) → found ≡ Some to → IsWithin j.layout to → nests ≡ true
             → ((f : File) → IsIn j.layout j.settings frame.at nests f → LeadsTo ls f frame.part s frame.here found next.part t next.here)
             → IsEntering gives old new j held (next ∷ frames) to t
         unfolding this
@@ -404,23 +451,14 @@ module _ {S : Type 0} (gives : S → ℕ → Result (List ℕ) ReadFault → S �
             step-done f ls frame.part past s frame.here ∙ stop.1 f in_file.under in_file.at,
           )) stops)
 
--- why a file is not entered
-pub enter-break : {S : Type 0} (gives : S → ℕ → Result (List ℕ) ReadFault → S → Type 0) (old new : S) (j : Job) (held : Held) (s : State) (file : ℕ) (why : Break)
-    → {P : ℕ → Cause → Type 0} → {Q : ReadFault → Type 0}
-    → ((line : ℕ) (cause : Cause) → P line cause → EndsBy gives old new j held s file (end.Stop line cause))
-    → ((fault : ReadFault) → Q fault → EndsBy gives old new j held s file (end.Unread fault))
-    → IfBadFile why P → IfUnread why Q → EndsBy gives old new j held s file why
-enter-break gives old new j held s file (end.Stop line cause) stops fails bad unread = stops line cause bad
-enter-break gives old new j held s file (end.Unread fault) stops fails bad unread = fails fault unread
-enter-break gives old new j held s file end.NoMemory stops fails bad unread = tt
-
 -- a file is entered of which nothing is left
-pub enter-passed : {S : Type 0} (gives : S → ℕ → Result (List ℕ) ReadFault → S → Type 0) (old new : S) (j : Job) (held : Held) (frames : List Frame) (from : Entry) (s t : State)
-    → IsEntering gives old new j held frames from s → t ≡ with_read from.at.file s → (ls : List FilePart) → held_at held from.at.file ≡ Some ls → IsSkipped t.table ls → NonePoisoned t → IsWalk gives old new j held frames t
-enter-passed gives old new j held frames from s t e is ls at nothing none =
+pub counted-passed : {S : Type 0} (gives : S → ℕ → Result (List ℕ) ReadFault → S → Type 0) (old new : S) (j : Job) (held : Held) (frames : List Frame) (from : Entry) (size : ℕ) (s t : State)
+    → IsCounted gives old new j held frames from size s → is_too_much j.settings.most_read (s.bytes_read + size) ≡ false → t ≡ with_read from.at.file size s
+    → (ls : List FilePart) → held_at held from.at.file ≡ Some ls → IsSkipped t.table ls → NonePoisoned t → IsWalk gives old new j held frames t
+counted-passed gives old new j held frames from size s t e few is ls at nothing none =
     subst (λ (x : State). IsWalk gives old new j held frames x) (sym is)
-    (walk-passed gives old new j held frames first (with_read from.at.file s) (enter-again gives old new j held frames from s e ls first at refl) (with_read from.at.file s) first.here refl
-    (λ f under index. ap (λ xs. lines_read f (lines_of_parts xs) (with_read from.at.file s) first.here) (lines_are held from.at.file ls at) ∙ nothing f (with_read from.at.file s) first.here (ap (λ (x : State). x.table) (sym is)) (subst NonePoisoned is none)))
+    (walk-passed gives old new j held frames first (with_read from.at.file size s) (counted-open gives old new j held frames from size s e few ls first at refl) (with_read from.at.file size s) first.here refl
+    (λ f under index. ap (λ xs. lines_read f (lines_of_parts xs) (with_read from.at.file size s) first.here) (lines_are held from.at.file ls at) ∙ nothing f (with_read from.at.file size s) first.here (ap (λ (x : State). x.table) (sym is)) (subst NonePoisoned is none)))
   where
     first : Frame
     first = first_frame j.layout from

@@ -55,7 +55,7 @@ module _ {S : Type 0} (gives : S → ℕ → Result (List ℕ) ReadFault → S �
     are_open = All-nil (λ (o : Frame). (ls : List FilePart) × (held_at held o.at.file ≡ Some ls));
     deep = omega arith;
     within = All-nil (λ (o : Frame). o.at.file < length j.layout.paths);
-    file_within = low;
+    file_within = (low, low);
   })
 
   -- no file is left

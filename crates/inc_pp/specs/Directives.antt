@@ -30,7 +30,7 @@ use Rattle.inc_pp.specs.Tasks.{File, State, Here, Halt, caused, halting}
 -- with another table
 abbrev pub with_table : Table → State → State
 with_table table s =
-    record { table = table; once = s.once; poisoned = s.poisoned; meter = s.meter; reads = s.reads; output = s.output }
+    record { table = table; once = s.once; poisoned = s.poisoned; meter = s.meter; reads = s.reads; bytes_read = s.bytes_read; output = s.output }
 
 abbrev pub is_number_kind : Kind → Bool
 is_number_kind Number = true

@@ -8,8 +8,9 @@ use Rattle.inc_token.specs.declared.kinds.Kind.{Kind}
 use Rattle.inc_token.specs.declared.kinds.Kind.TheVariants.{Str}
 use Rattle.inc_token.specs.declared.kinds.IncludeName.{IncludeName}
 use Rattle.inc_token.specs.declared.kinds.IncludeName.TheVariants.{Import}
-use Rattle.inc_directive.specs.LineKinds.{Target, Quoted, Angled, Nothing, inner_bytes, search_after}
+use Rattle.inc_directive.specs.LineKinds.{Target, Quoted, Angled, Nothing, inner_bytes, line_of_tokens, search_after}
 use Rattle.inc_directive.specs.Groups.{FileLine}
+use Rattle.inc_lookup.specs.declared.projects.DirectiveId.{DirectiveId}
 use Rattle.inc_lookup.specs.declared.projects.Form.{Form}
 use Rattle.inc_lookup.specs.declared.projects.Form.TheVariants as form
 use Rattle.inc_lookup.specs.declared.projects.Found.{Found}
@@ -107,22 +108,23 @@ abbrev pub found_from : File → IncludeName → Header → Option Found
 found_from f by header =
     found_place (layout_in f.task) (path_at (layout_in f.task) f.index) header.form (search_after by f.next) header.name
 
--- the file that a name has found in the file at a place
-abbrev pub entry_in : Layout → Settings → (file : ℕ) → Here → (name : List ℕ) → Found → Entry
-entry_in layout settings file h name at = record {
+-- the file that a name has found in a directive
+abbrev pub entry_in : Layout → Settings → (by : DirectiveId) → Here → (name : List ℕ) → Found → Entry
+entry_in layout settings by h name at = record {
   at = at;
-  standing = included_standing settings (shown_path layout file h.standing.spelled) h.standing name at.next;
+  standing = included_standing settings (shown_path layout by.file h.standing.spelled) h.standing name at.next;
+  by = by;
 }
 
--- the same in the file at hand
-abbrev pub entered : File → Here → (name : List ℕ) → Found → Entry
-entered f h name at = entry_in (layout_in f.task) f.task.settings f.index h name at
+-- the same in a directive of the file at hand that is on this line
+abbrev pub entered : File → (line : ℕ) → Here → (name : List ℕ) → Found → Entry
+entered f line h name at = entry_in (layout_in f.task) f.task.settings (record { file = f.index; line = line }) h name at
 
 -- the file that an include directive leads to, and the state after it
 abbrev pub include_target : IncludeName → Target → File → FileLine → State → Here → Result (Option Entry × State) Cause
 include_target by target f l s h =
     header_of target f l s h >>= λ r. led_to by f r.1 (found_from f by r.0) >>= λ q.
-    Ok (option_map (entered f h r.0.name) q.0, q.1)
+    Ok (option_map (entered f (line_of_tokens l.tokens) h r.0.name) q.0, q.1)
 
 -- the file is read with the shift and name of its own, and those of the including file come back
 abbrev pub included : Deeper → Option Entry → State → Here → Result (State × Here) Halt

@@ -1,19 +1,20 @@
 -- Preprocessing of a source file (ISO/IEC 9899:2018, 5.1.1.2 phases 1 to 4; 6.10): a recursion on the tree of a file, and on how deep
 -- includes may still nest. Choices of this profile: the limits, and what a stop keeps.
-use Rattle.std.specs.Prelude.{ℕ, zero, suc, true, false, List, [], ◌∷◌, ◌++◌, Option, Some, None, Result, Ok, Err, unwrap_or}
+use Rattle.std.specs.Prelude.{ℕ, zero, suc, ◌+◌, Bool, true, false, List, [], ◌∷◌, ◌++◌, Option, Some, None, Result, Ok, Err, length, unwrap_or}
 use Rattle.inc_directive.specs.Groups.{Group, Branches, Empty, Run, Control, Section, Branch, Otherwise, Close}
 use Rattle.inc_lookup.specs.declared.projects.DirectiveId.{DirectiveId}
-use Rattle.inc_lookup.specs.Projects.{Layout, Listing, layout_of, path_at}
+use Rattle.inc_lookup.specs.Projects.{Layout, Listing, bytes_at, layout_of, path_at}
 use Rattle.inc_macro.specs.declared.faults.DefineFault.{DefineFault}
 pub use Rattle.inc_macro.specs.Macros.{with_words}
 use Rattle.inc_macro.specs.Macros.{no_macros}
 use Rattle.inc_macro.specs.Results.{◌>>=◌}
+use Rattle.inc_pp.specs.declared.causes.Cause.TheVariants.{TooMuchRead}
 use Rattle.inc_pp.specs.declared.causes.Stop.{Stop}
 use Rattle.inc_pp.specs.Directives.{directive_read}
 use Rattle.inc_pp.specs.Files.{FileFault, tree_of}
 use Rattle.inc_pp.specs.Runs.{run_read, released}
 use Rattle.inc_pp.specs.Sections.{is_taken}
-use Rattle.inc_pp.specs.Settings.{Settings, sourced_settings}
+use Rattle.inc_pp.specs.Settings.{Settings, is_too_much, sourced_settings}
 use Rattle.inc_pp.specs.Tasks.{OutToken, Task, State, Entry, Here, Halt, Deeper, File, layout_in, start, source_at, begun, halting}
 use Rattle.inc_pp.specs.declared.walks.TheConstants.{MOST_DEPTH}
 
@@ -38,16 +39,37 @@ abbrev pub tree_read : File → Result Group FileFault → State → Here → Re
 tree_read f (Ok g) s h = group_read f g s h >>= λ r. released f r.0 r.1 >>= λ q. Ok q.0
 tree_read f (Err fault) s h = halting f fault.1 s (Err fault.0)
 
--- with one more file read
-abbrev pub with_read : ℕ → State → State
-with_read file s =
-    record { table = s.table; once = s.once; poisoned = s.poisoned; meter = s.meter; reads = s.reads ++ (file ∷ []); output = s.output }
+-- with one more file read, which has so many bytes
+abbrev pub with_read : ℕ → (size : ℕ) → State → State
+with_read file size s = record {
+  table = s.table;
+  once = s.once;
+  poisoned = s.poisoned;
+  meter = s.meter;
+  reads = s.reads ++ (file ∷ []);
+  bytes_read = s.bytes_read + size;
+  output = s.output;
+}
 
--- a file is added to the reads, then read from the top
+-- the stop at the directive that leads to a file
+abbrev pub much_halt : Entry → State → Halt
+much_halt e s = record { state = s; stop = record { file = e.by.file; line = e.by.line; cause = TooMuchRead } }
+
+-- a file that was added to the reads is read from the top, if not too much was read with it
+abbrev pub counted_read : (too_much : Bool) → File → Entry → Result Group FileFault → State → Here → Result State Halt
+counted_read true f e r s h = Err (much_halt e s)
+counted_read false f e r s h = tree_read f r s h
+
+-- a file is added to the reads, and counted with its bytes
+abbrev pub sized_read : (size : ℕ) → Task → Deeper → Entry → State → Result State Halt
+sized_read size t deeper e s =
+    counted_read (is_too_much t.settings.most_read (s.bytes_read + size))
+    (record { task = t; index = e.at.file; next = e.at.next; deeper = deeper }) e
+    (tree_of t.settings.language t.listing t.without e.at.file) (with_read e.at.file size s) (start (layout_in t) e)
+
+-- the bytes that count are those in the list
 abbrev pub file_read : Task → Deeper → Entry → State → Result State Halt
-file_read t deeper e s =
-    tree_read (record { task = t; index = e.at.file; next = e.at.next; deeper = deeper })
-    (tree_of t.settings.language t.listing t.without e.at.file) (with_read e.at.file s) (start (layout_in t) e)
+file_read t deeper e s = sized_read (length (bytes_at t.listing e.at.file)) t deeper e s
 
 -- includes nest so deep at most; the source is at depth 0
 abbrev pub most_depth : ℕ

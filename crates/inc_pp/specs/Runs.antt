@@ -25,7 +25,7 @@ use Rattle.inc_pp.specs.Tasks.{File, OutToken, State, Here, Halt, caused, haltin
 -- with another meter
 abbrev pub with_meter : Meter → State → State
 with_meter meter s =
-    record { table = s.table; once = s.once; poisoned = s.poisoned; meter = meter; reads = s.reads; output = s.output }
+    record { table = s.table; once = s.once; poisoned = s.poisoned; meter = meter; reads = s.reads; bytes_read = s.bytes_read; output = s.output }
 
 -- expanded tokens, and the state with the meter after them
 abbrev pub expanded : File → Here → State → List Tok → Result (List Item × State) Cause
@@ -36,7 +36,7 @@ expanded f h s ts =
 -- with more tokens put out
 abbrev pub put_out : List OutToken → State → State
 put_out ts s =
-    record { table = s.table; once = s.once; poisoned = s.poisoned; meter = s.meter; reads = s.reads; output = s.output ++ ts }
+    record { table = s.table; once = s.once; poisoned = s.poisoned; meter = s.meter; reads = s.reads; bytes_read = s.bytes_read; output = s.output ++ ts }
 
 -- where the tokens of the file at hand are, if lines are marked
 abbrev pub marks_in : File → Here → Option Place
@@ -45,7 +45,7 @@ marks_in f h = marks_of f.task.settings (place_of f h)
 -- with the file among those that are read once
 abbrev pub with_once : ℕ → State → State
 with_once file s =
-    record { table = s.table; once = λ i. (i == file) || s.once i; poisoned = s.poisoned; meter = s.meter; reads = s.reads; output = s.output }
+    record { table = s.table; once = λ i. (i == file) || s.once i; poisoned = s.poisoned; meter = s.meter; reads = s.reads; bytes_read = s.bytes_read; output = s.output }
 
 -- with what a run in the file puts out
 abbrev pub put_laid : (file : ℕ) → Laid → State → State
@@ -55,6 +55,7 @@ put_laid file l s = record {
   poisoned = s.poisoned;
   meter = s.meter;
   reads = s.reads;
+  bytes_read = s.bytes_read;
   output = s.output ++ l.tokens;
 }
 

@@ -1,13 +1,14 @@
 -- What the caller of a preprocessing sets. Choices of this profile: which dates and times are taken, what an include does whose file is
--- not found, whether lines are marked, and how files are called.
-use Rattle.std.specs.Prelude.{ℕ, ◌==◌, ◌&&◌, ◌||◌, not, Bool, false, List, [], Option, Some, None, if◌then◌else◌, nat_le, codes, unwrap_or}
+-- not found, whether lines are marked, how files are called, and how much is read at most.
+use Rattle.std.specs.Prelude.{ℕ, ◌==◌, ◌&&◌, ◌||◌, not, Bool, false, List, [], Option, Some, None, if◌then◌else◌, nat_le, nat_lt, codes, unwrap_or}
 use Rattle.std.specs.List.{list_all}
 use Rattle.inc_text.specs.Ascii.{quotation_mark, backslash}
 use Rattle.inc_lookup.specs.IncludePath.{NamedDir}
 use Rattle.inc_text.specs.declared.languages.Language.{Language}
 use Rattle.inc_pp.specs.declared.settings.Missing.{Missing}
 
--- language, date and time, what an include does whose file is not found, whether lines are marked, and how files are called
+-- language, date and time, what an include does whose file is not found, whether lines are marked, how files are called, and how much is
+-- read at most
 pub record Settings : Type 0 where
   -- that of all files
   pub language : Language
@@ -25,6 +26,8 @@ pub record Settings : Type 0 where
   pub source : Option (List ℕ)
   -- the directories of the include path, in its order, as far as it is known how they are spelled
   pub dirs : List NamedDir
+  -- at most so many bytes are read, those of a file that is read twice counted twice; none: any number
+  pub most_read : Option ℕ
 
 -- printable ASCII other than `"` and `\`
 abbrev pub is_date_byte : ℕ → Bool
@@ -43,6 +46,7 @@ settings_of language date time timestamp missing =
       has_markers = false;
       source = None;
       dirs = [];
+      most_read = None;
     }) else None
 
 -- the settings of the program
@@ -57,6 +61,7 @@ usual_settings language missing =
       has_markers = false;
       source = None;
       dirs = [];
+      most_read = None;
     }
 
 -- with markers or without
@@ -70,6 +75,15 @@ sourced_settings source s = record s { source = Some source }
 -- with these directories of the include path
 abbrev pub found_in_settings : (dirs : List NamedDir) → Settings → Settings
 found_in_settings dirs s = record s { dirs = dirs }
+
+-- with this limit of the bytes that are read, or none
+abbrev pub limited_settings : (most_read : Option ℕ) → Settings → Settings
+limited_settings most_read s = record s { most_read = most_read }
+
+-- so many bytes are more than may be read
+abbrev pub is_too_much : (most : Option ℕ) → (bytes : ℕ) → Bool
+is_too_much None bytes = false
+is_too_much (Some most) bytes = nat_lt most bytes
 
 -- what the source is called; the settings of a preprocessing have a name for it
 abbrev pub base_of : Settings → List ℕ

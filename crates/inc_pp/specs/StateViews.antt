@@ -21,6 +21,7 @@ state_of s =
       poisoned = among s.poisoned;
       meter = s.budget;
       reads = s.reads;
+      bytes_read = s.bytes_read;
       output = s.output;
     }
 

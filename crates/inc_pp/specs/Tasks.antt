@@ -1,5 +1,5 @@
 -- What a preprocessing carries, and how it stops.
-use Rattle.std.specs.Prelude.{ℕ, Bool, false, List, [], ◌∷◌, Option, None, Result, Ok, Err, ℤ, pos, unwrap_or}
+use Rattle.std.specs.Prelude.{ℕ, ◌<◌, Bool, false, List, [], ◌∷◌, Option, None, Result, Ok, Err, ℤ, pos, length, unwrap_or}
 use Rattle.inc_token.specs.declared.kinds.Kind.{Kind}
 use Rattle.inc_lookup.specs.declared.projects.DirectiveId.{DirectiveId}
 use Rattle.inc_lookup.specs.Projects.{Layout, Listing, layout_of, path_at}
@@ -31,7 +31,7 @@ line_tokens starts [] = []
 line_tokens starts (i ∷ is) = record { kind = i.kind; spelling = i.spelling; starts = starts } ∷ line_tokens false is
 
 -- what the whole preprocessing changes: macros, a test of the files that `#pragma once` named, one of the names that `#pragma GCC poison` took away, work
--- units left and counts given, files read so far, and tokens put out so far
+-- units left and counts given, files read so far and their bytes, and tokens put out so far
 pub record State : Type 0 where
   -- the macros
   pub table : Table
@@ -43,6 +43,8 @@ pub record State : Type 0 where
   pub meter : Meter
   -- the files that were read, the first one first
   pub reads : List ℕ
+  -- how many bytes they have
+  pub bytes_read : ℕ
   -- the tokens that were put out
   pub output : List OutToken
 
@@ -79,7 +81,15 @@ pub record File : Type 0 where
 
 -- the source, which no search has found
 abbrev pub source_at : Settings → (file : ℕ) → Entry
-source_at settings file = record { at = record { file = file; next = None }; standing = source_standing settings }
+source_at settings file = record {
+  at = record { file = file; next = None };
+  standing = source_standing settings;
+  by = record { file = file; line = 1 };
+}
+
+-- a file that is to be read, and that of the directive that leads to it, are of the project
+abbrev pub IsWithin : Layout → Entry → Type 0
+IsWithin layout e = (e.at.file < length layout.paths) × (e.by.file < length layout.paths)
 
 -- the paths and directories of a task
 abbrev pub layout_in : Task → Layout
@@ -101,7 +111,7 @@ start layout e = record {
 
 -- nothing is read yet, all units are there, and no count was given
 abbrev pub begun : Table → State
-begun table = record { table = table; once = λ _. false; poisoned = λ _. false; meter = first_meter; reads = []; output = [] }
+begun table = record { table = table; once = λ _. false; poisoned = λ _. false; meter = first_meter; reads = []; bytes_read = 0; output = [] }
 
 ---- stops
 

@@ -1,5 +1,5 @@
 -- What is known of a preprocessing on its way.
-use Rattle.std.specs.Prelude.{◌≡◌, ◌≢◌, ◌<◌, ◌≤◌, ◌-◌, ℕ, suc, List, ◌∷◌, ◌++◌, Some, Result, Ok, length, Contains}
+use Rattle.std.specs.Prelude.{◌≡◌, ◌≢◌, ◌<◌, ◌≤◌, ◌-◌, ℕ, suc, List, [], ◌∷◌, ◌++◌, Some, Result, Ok, length, Contains}
 use Rattle.std.specs.List.{All}
 use Rattle.inc_text.specs.declared.devices.ReadFault.{ReadFault}
 use Rattle.inc_text.specs.declared.devices.ReadFault.TheVariants as read
@@ -15,8 +15,8 @@ use Rattle.inc_pp.specs.Preprocessing.{Outcome, outcome_of, file_read, most_dept
 use Rattle.inc_pp.specs.Readings.{IsOfReadsAfter}
 use Rattle.inc_pp.specs.Settings.{Settings}
 use Rattle.inc_pp.specs.Shared.{AreShared}
-use Rattle.inc_pp.specs.Tasks.{Task, State, Entry, Halt, source_at, begun}
-use Rattle.inc_pp.specs.Walks.{Held, held_at, deeper_at, all_read}
+use Rattle.inc_pp.specs.Tasks.{Task, State, Entry, Halt, IsWithin, source_at, begun}
+use Rattle.inc_pp.specs.Walks.{Held, held_at, size_at, deeper_at, all_read}
 
 -- what stays the same in a preprocessing, but for the bytes of the files
 pub record Job : Type 0 where
@@ -91,8 +91,24 @@ pub record IsEntering {S : Type 0} (gives : S → ℕ → Result (List ℕ) Read
   pub deep : length frames ≤ most_depth
   -- each is a file of the project
   pub within : All (λ (o : Frame). o.at.file < length j.layout.paths) frames
-  -- and so is this one
-  pub file_within : e.at.file < length j.layout.paths
+  -- and so is this one, and that of the directive that leads to it
+  pub file_within : IsWithin j.layout e
+
+-- and this file, which is held, is read next and counts among those that were read
+pub record IsCounted {S : Type 0} (gives : S → ℕ → Result (List ℕ) ReadFault → S → Type 0) (old new : S) (j : Job) (held : Held) (frames : List Frame) (e : Entry) (size : ℕ) (s : State) : Type 0 where
+  -- what is left is this file, and then that of those that are being read
+  pub reading : IsReading gives old new j held (s.reads ++ e.at.file ∷ [])
+      (λ t. all_read t held frames (file_read t (deeper_at t (most_depth - length frames)) e s))
+  -- each of those is held
+  pub are_open : AreOpen held frames
+  -- one more file may be entered
+  pub deep : length frames ≤ most_depth
+  -- each is a file of the project
+  pub within : All (λ (o : Frame). o.at.file < length j.layout.paths) frames
+  -- and so is this one, and that of the directive that leads to it
+  pub file_within : IsWithin j.layout e
+  -- it has so many bytes
+  pub sized : size_at held e.at.file ≡ Some size
 
 -- the whole is over, with this outcome and these files
 pub record IsOver {S : Type 0} (gives : S → ℕ → Result (List ℕ) ReadFault → S → Type 0) (old new : S) (j : Job) (held : Held) (o : Outcome) : Type 0 where

@@ -1,5 +1,5 @@
 -- Preprocessing as a walk over the parts of files: what is left to read from a part on, of the file at hand and of those that include it.
-use Rattle.std.specs.Prelude.{ℕ, zero, suc, ◌-◌, List, [], ◌∷◌, Option, Some, None, Result, Ok, Err, length, slice_get, option_and_then}
+use Rattle.std.specs.Prelude.{ℕ, zero, suc, ◌-◌, List, [], ◌∷◌, Option, Some, None, Result, Ok, Err, length, slice_get, option_and_then, option_map}
 use Rattle.std.specs.Option.{option_map_or}
 use Rattle.inc_directive.specs.Groups.{FileLine, Group, Ending, FileEnd, Faulty, AtElif, AtElse, AtEndif, group_at}
 use Rattle.inc_directive.specs.Parts.{FilePart, lines_from}
@@ -36,13 +36,23 @@ deeper_at t (suc left) = Some (reading left t)
 abbrev pub file_at : Task → (at : Found) → (depth : ℕ) → File
 file_at t at depth = record { task = t; index = at.file; next = at.next; deeper = deeper_at t (most_depth - depth) }
 
--- the parts of each file that was read, or its fault, by its place in the list
-abbrev pub Held : Type 0
-Held = List (Option (Result (List FilePart) FileFault))
-
 -- what a file that was read turned out to be
-abbrev pub known_at : Held → ℕ → Option (Result (List FilePart) FileFault)
+pub record Known : Type 0 where
+  -- how many bytes it has
+  pub size : ℕ
+  -- its parts, or its fault
+  pub lines : Result (List FilePart) FileFault
+
+-- of each file that was read, by its place in the list
+abbrev pub Held : Type 0
+Held = List (Option Known)
+
+abbrev pub known_at : Held → ℕ → Option Known
 known_at held file = option_and_then (λ o. o) (slice_get held file)
+
+-- how many bytes it has
+abbrev pub size_at : Held → ℕ → Option ℕ
+size_at held file = option_map (λ (k : Known). k.size) (known_at held file)
 
 abbrev pub if_parts : Result (List FilePart) FileFault → Option (List FilePart)
 if_parts (Ok ps) = Some ps
@@ -54,11 +64,11 @@ if_fault (Err fault) = Some fault
 
 -- its parts, where it has a tree
 abbrev pub held_at : Held → ℕ → Option (List FilePart)
-held_at held file = option_and_then if_parts (known_at held file)
+held_at held file = option_and_then (λ (k : Known). if_parts k.lines) (known_at held file)
 
 -- its fault, where it has none
 abbrev pub fault_at : Held → ℕ → Option FileFault
-fault_at held file = option_and_then if_fault (known_at held file)
+fault_at held file = option_and_then (λ (k : Known). if_fault k.lines) (known_at held file)
 
 abbrev pub parts_in : Held → ℕ → List FilePart
 parts_in held file = option_map_or (λ ps. ps) (held_at held file) []

@@ -41,6 +41,9 @@ pub enum Cause {
     BadPragma,
     /// A line that is read has a name that `#pragma GCC poison` took away.
     Poisoned,
+    /// More bytes would be read than the settings allow. The stop is at the include directive that leads to the file, or at the first
+    /// line of the source.
+    TooMuchRead,
 }
 
 /// Where and why a preprocessing stopped.

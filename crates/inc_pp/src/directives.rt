@@ -17,7 +17,7 @@ ghost use Rattle.inc_pp.specs.StateViews.{state_of};
 ghost use Rattle.inc_pp.specs.Sections.{operands};
 ghost use Rattle.inc_pp.specs.Steps.{place_under};
 ghost use Rattle.inc_pp.specs.Stops.{AreOf, IfStop, IsIn, IsUnder, halt_at};
-ghost use Rattle.inc_pp.specs.Tasks.{File};
+ghost use Rattle.inc_pp.specs.Tasks.{File, IsWithin};
 
 use crate::causes::Cause;
 use crate::entries::{Entry, entry_of};
@@ -32,7 +32,7 @@ use crate::settings::Settings;
 use crate::states::State;
 use inc_directive::{DirectiveKind, FileLines, LineKind};
 use inc_expand::{Budget, Item, Place};
-use inc_lookup::{FileId, Found, Project};
+use inc_lookup::{DirectiveId, FileId, Found, Project};
 use inc_macro::DefineFault;
 use inc_token::{Kind, Token};
 use std::alloc::AllocError;
@@ -56,7 +56,7 @@ impl State {
         ensures done { IfOk result (λ found. (f : File) (l : FileLine) →
             IsIn project.now settings.now at.now nests f → slice_get lines.now i ≡ Some (DirectivePart l) →
             spec.control_read f l (state_of self.old) here.old ≡ included f.deeper found (state_of self.new) here.new) }
-        ensures within { IfOk result (λ found. IfSome found (λ k. (k.at.file < length project.now.paths) × (nests ≡ true))) }
+        ensures within { IfOk result (λ found. IfSome found (λ k. IsWithin project.now k × (nests ≡ true))) }
         ensures fits { IfOk result (λ found. IfSome found (λ _. length (state_of self.new).reads < most_reads)) }
         ensures reads { (state_of self.new).reads ≡ (state_of self.old).reads }
         ensures stop { IfErr result (λ fault. IfStop fault (λ line cause.
@@ -92,7 +92,7 @@ impl State {
         ensures done { IfOk result (λ found. (f : File) (l : FileLine) →
             IsIn project.now settings.now at.now nests f → slice_get lines.now i ≡ Some (DirectivePart l) →
             spec.control_line f l (state_of self.old) here.old ≡ included f.deeper found (state_of self.new) here.new) }
-        ensures within { IfOk result (λ found. IfSome found (λ k. (k.at.file < length project.now.paths) × (nests ≡ true))) }
+        ensures within { IfOk result (λ found. IfSome found (λ k. IsWithin project.now k × (nests ≡ true))) }
         ensures fits { IfOk result (λ found. IfSome found (λ _. length (state_of self.new).reads < most_reads)) }
         ensures reads { (state_of self.new).reads ≡ (state_of self.old).reads }
         ensures stop { IfErr result (λ fault. IfStop fault (λ line cause.
@@ -106,7 +106,11 @@ impl State {
                 let header = self.header(settings, lines, i, here, target)?;
                 let there = sought(self.alloc, project, at, by, &header)?;
                 let found = self.led_to(settings, nests, lines, i, by, &there)?;
-                let entry = entry_of(self.alloc, project, settings, at, here, &header, found)?;
+                let this = DirectiveId {
+                    file: at.file,
+                    line: lines.first_line(i),
+                };
+                let entry = entry_of(self.alloc, project, settings, this, here, &header, found)?;
                 Ok(entry)
             }
             LineKind::Other(kind) => {

@@ -8,7 +8,7 @@ use crate::file_names::{is_in_system, source_spelled, where_spelled};
 use crate::headers::Header;
 use crate::line_numbers::Here;
 use crate::settings::Settings;
-use inc_lookup::{FileId, Found, Project};
+use inc_lookup::{DirectiveId, FileId, Found, Project};
 use std::alloc::{AllocError, Global};
 use std::marker::Model;
 
@@ -109,6 +109,8 @@ pub(crate) struct Entry {
     pub(crate) at: Found,
     /// How it comes to be read.
     pub(crate) standing: Standing,
+    /// The directive that leads to it; of the source its first line.
+    pub(crate) by: DirectiveId,
 }
 
 impl Entry {
@@ -124,30 +126,31 @@ impl Entry {
         Ok(Entry {
             at: Found { file, next: None },
             standing,
+            by: DirectiveId { file, line: 1 },
         })
     }
 }
 
-/// The file that an include directive in the file `from` leads to, if any.
+/// The file that an include directive leads to, if any.
 pub(crate) fn entry_of(
     alloc: Global,
     project: &Project<'_>,
     settings: &Settings<'_>,
-    from: &Found,
+    by: DirectiveId,
     here: &Here,
     header: &Header<'_>,
     found: Option<Found>,
 ) -> Result<Option<Entry>, AllocError>
-    requires { from.now.file < length project.now.paths }
+    requires { by.file < length project.now.paths }
     ensures { IfOk result (λ entry. entry
-        ≡ option_map (entry_in project.now settings.now from.now.file here.now header.now.name) found) }
+        ≡ option_map (entry_in project.now settings.now by here.now header.now.name) found) }
 {
     let Some(at) = found else {
         return Ok(None);
     };
-    let includer = here.standing.path(project, from.file);
+    let includer = here.standing.path(project, by.file);
     let standing = here
         .standing
         .of_included(alloc, settings, includer, header.name(), at.next)?;
-    Ok(Some(Entry { at, standing }))
+    Ok(Some(Entry { at, standing, by }))
 }

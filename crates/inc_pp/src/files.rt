@@ -1,15 +1,15 @@
 //! The files of a project that were read.
-ghost use Rattle.std.specs.Prelude.{◌≡◌, ◌≢◌, ◌<◌, ◌≤◌, ℕ, List, length, option_map, set, None, Some, Ok, Err, IfOk, IfErr, OnOk};
+ghost use Rattle.std.specs.Prelude.{◌≡◌, ◌≢◌, ◌<◌, ◌≤◌, length, option_map, None, Some, Ok, Err, IfOk, IfErr};
 ghost use Rattle.inc_text.specs.PhaseText.{phase_text};
 ghost use Rattle.inc_text.specs.declared.devices.ReadFault.{ReadFault};
 ghost use Rattle.inc_text.specs.declared.devices.TheConstants.{LONGEST_FILE};
 ghost use Rattle.inc_directive.specs.Groups.{Group, group_tree};
-ghost use Rattle.inc_directive.specs.Parts.{FilePart, lines_of_parts};
+ghost use Rattle.inc_directive.specs.Parts.{lines_of_parts};
 ghost use Rattle.inc_lookup.specs.DirectiveLists.{is_listed};
 ghost use Rattle.inc_pp.specs.Files.{text_tree};
 ghost use Rattle.inc_pp.specs.Stops.{AreOf, IfBadFile, IfStop, IfUnread};
-ghost use Rattle.inc_pp.specs.Walks.{fault_at, held_at, if_fault, if_parts};
-ghost use Rattle.inc_pp.specs.Shared.{AreUnread};
+ghost use Rattle.inc_pp.specs.Walks.{fault_at, held_at, if_fault, if_parts, known_at, size_at};
+ghost use Rattle.inc_pp.specs.Shared.{AreUnread, IsKnownBy, IsLoadedBy};
 
 use crate::causes::Cause;
 use crate::faults::Break;
@@ -19,40 +19,50 @@ use inc_text::{Language, ReadFault, Text, TextFault, splice_owned};
 use std::alloc::{AllocError, Global};
 use std::marker::Model;
 
-/// What a file turned out to be that was read: its lines, or its fault. It has memory of its own, since most files of a list are never
-/// read, and take little room then.
+/// What a file turned out to be that was read.
+#[derive(Drop)]
+pub(crate) struct ReadFile {
+    /// How many bytes it has.
+    size: usize,
+    /// Its lines, or its fault.
+    lines: Result<HeldFile, (Cause, u32)>,
+}
+
+/// The same in memory of its own, since most files of a list are never read, and take little room then.
 #[derive(Drop)]
 struct KnownFile {
-    file: Box<Result<HeldFile, (Cause, u32)>>,
+    file: Box<ReadFile>,
 }
 
 impl Model for KnownFile {
-    ghost use Rattle.std.specs.Prelude.{List, Result};
-    ghost use Rattle.inc_directive.specs.Parts.{FilePart};
-    ghost use Rattle.inc_pp.specs.Files.{FileFault};
+    ghost use Rattle.inc_pp.specs.Walks.{Known};
 
-    ghost Value = { Result (List FilePart) FileFault };
+    ghost Value = { Known };
 
-    ghost view = { λ k. k.file.value };
+    ghost view = { λ k. record { size = k.file.value.size; lines = k.file.value.lines } };
 }
 
 impl KnownFile {
     /// What a file turned out to be, in memory of its own.
-    fn new(alloc: Global, file: Result<HeldFile, (Cause, u32)>) -> Result<KnownFile, Break>
-        ensures known { IfOk result (λ known. known ≡ file) }
-        ensures fault { IfErr result (λ fault. fault ≡ Break.NoMemory) }
+    fn new(alloc: Global, file: ReadFile) -> Result<KnownFile, AllocError>
+        ensures { IfOk result (λ known. known ≡ record { size = file.size; lines = file.lines }) }
     {
-        match Box::new(alloc, file) {
-            Ok(file) => Ok(KnownFile { file }),
-            Err(_) => Err(Break::NoMemory),
-        }
+        let file = Box::new(alloc, file)?;
+        Ok(KnownFile { file })
+    }
+
+    /// How many bytes it has.
+    fn size(&self) -> usize
+        ensures { result ≡ self.now.size }
+    {
+        self.file.size
     }
 
     /// Its lines.
     fn held(&self) -> Option<&HeldFile>
-        ensures { option_map (λ h. h.now) result ≡ if_parts self.now }
+        ensures { option_map (λ h. h.now) result ≡ if_parts self.now.lines }
     {
-        match &*self.file {
+        match &self.file.lines {
             Ok(held) => Some(held),
             Err(_) => None,
         }
@@ -60,9 +70,9 @@ impl KnownFile {
 
     /// Its fault.
     fn fault(&self) -> Option<(Cause, u32)>
-        ensures { result ≡ if_fault self.now }
+        ensures { result ≡ if_fault self.now.lines }
     {
-        match &*self.file {
+        match &self.file.lines {
             Ok(_) => None,
             Err(fault) => Some(*fault),
         }
@@ -118,42 +128,62 @@ impl Files {
         }
     }
 
-    /// Reads a file, and holds it or its fault. Its bytes become the text that is held.
-    pub(crate) fn load<S: Sources>(
+    /// How many bytes a file has, if it was read.
+    fn size(&self, file: FileId) -> Option<usize>
+        ensures { result ≡ size_at self.now file }
+    {
+        match self.held.get(file.index())? {
+            Some(known) => Some(known.size()),
+            None => None,
+        }
+    }
+
+    /// How many bytes a file has. It is read, if it was not.
+    pub(crate) fn known_size<S: Sources>(
         &mut self,
         alloc: Global,
         sources: &mut S,
         removed: &DirectiveSet<'_>,
         language: Language,
         file: FileId,
-    ) -> Result<(), Break>
+    ) -> Result<usize, Break>
         requires within { file < length self.old }
-        ensures held { OnOk result ((bytes : List ℕ) × (ps : List FilePart) × (tree : Group)
-            × S.gives sources.old file (Ok bytes) sources.new
-            × (self.new ≡ set self.old file (Some (Ok ps))) × AreOf language (lines_of_parts ps)
-            × (text_tree language (is_listed removed.now file) (phase_text language bytes) ≡ Ok tree)
-            × (group_tree (lines_of_parts ps) ≡ Ok tree)) }
-        ensures stop { IfErr result (λ fault. IfBadFile fault (λ line cause. (bytes : List ℕ)
-            × S.gives sources.old file (Ok bytes) sources.new
-            × (self.new ≡ set self.old file (Some (Err (cause, line))))
-            × (text_tree language (is_listed removed.now file) (phase_text language bytes) ≡ Err (cause, line)))) }
+        ensures known { IfOk result (λ size. IsKnownBy S.gives language removed.now file sources.old self.old sources.new self.new size) }
+        ensures never { IfErr result (λ fault. IfBadFile fault (λ line cause. ⊥)) }
         ensures unread { IfErr result (λ fault. IfUnread fault (λ why.
-            S.gives sources.old file (Err why) sources.new × (why ≢ ReadFault.NoMemory))) }
+            (known_at self.old file ≡ None) × (self.new ≡ self.old)
+            × S.gives sources.old file (Err why) sources.new × (why ≢ ReadFault.NoMemory))) }
     {
-        let bytes = read_source(alloc, sources, file)?;
-        match held_file(alloc, bytes, removed, language, file) {
-            Ok(held) => {
-                let known = KnownFile::new(alloc, Ok(held))?;
-                self.held[file.index()] = Some(known);
-                Ok(())
-            }
-            Err(Break::Stop { line, cause }) => {
-                let known = KnownFile::new(alloc, Err((cause, line)))?;
-                self.held[file.index()] = Some(known);
-                Err(Break::Stop { line, cause })
-            }
+        if let Some(size) = self.size(file) {
+            return Ok(size);
+        }
+        match self.load(alloc, sources, removed, language, file) {
+            Ok(size) => Ok(size),
             Err(fault) => Err(fault),
         }
+    }
+
+    /// Reads a file, and holds it or its fault. Its bytes become the text that is held.
+    fn load<S: Sources>(
+        &mut self,
+        alloc: Global,
+        sources: &mut S,
+        removed: &DirectiveSet<'_>,
+        language: Language,
+        file: FileId,
+    ) -> Result<usize, Break>
+        requires within { file < length self.old }
+        ensures loaded { IfOk result (λ size. IsLoadedBy S.gives language removed.now file sources.old self.old sources.new self.new size) }
+        ensures never { IfErr result (λ fault. IfBadFile fault (λ line cause. ⊥)) }
+        ensures unread { IfErr result (λ fault. IfUnread fault (λ why. (self.new ≡ self.old)
+            × S.gives sources.old file (Err why) sources.new × (why ≢ ReadFault.NoMemory))) }
+    {
+        let bytes = read_source(alloc, sources, file)?;
+        let size = bytes.len();
+        let lines = lines_in(alloc, bytes, removed, language, file)?;
+        let known = KnownFile::new(alloc, ReadFile { size, lines })?;
+        self.held[file.index()] = Some(known);
+        Ok(size)
     }
 }
 
@@ -169,6 +199,28 @@ fn read_source<S: Sources>(alloc: Global, sources: &mut S, file: FileId) -> Resu
         Ok(bytes) => Ok(bytes),
         Err(ReadFault::NoMemory) => Err(Break::NoMemory),
         Err(fault) => Err(Break::Unread(fault)),
+    }
+}
+
+/// What a file with these bytes turns out to be: its lines, or its fault.
+fn lines_in(
+    alloc: Global,
+    bytes: Vec<u8>,
+    removed: &DirectiveSet<'_>,
+    language: Language,
+    file: FileId,
+) -> Result<Result<HeldFile, (Cause, u32)>, AllocError>
+    requires short { length bytes.items ≤ LONGEST_FILE }
+    ensures kinds { IfOk result (λ lines. IfOk lines (λ held. AreOf language (lines_of_parts held))) }
+    ensures tree { IfOk result (λ lines. IfOk lines (λ held. (tree : Group) × (group_tree (lines_of_parts held) ≡ Ok tree)
+        × (text_tree language (is_listed removed.now file) (phase_text language bytes.items) ≡ Ok tree))) }
+    ensures fault { IfOk result (λ lines. IfErr lines (λ fault.
+        text_tree language (is_listed removed.now file) (phase_text language bytes.items) ≡ Err fault)) }
+{
+    match held_file(alloc, bytes, removed, language, file) {
+        Ok(held) => Ok(Ok(held)),
+        Err(Break::Stop { line, cause }) => Ok(Err((cause, line))),
+        Err(_) => Err(AllocError),
     }
 }
 

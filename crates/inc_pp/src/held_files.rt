@@ -13,7 +13,7 @@ ghost use Rattle.inc_pp.specs.HeldFiles.{IsSkipped};
 ghost use Rattle.inc_pp.specs.Includes.{most_reads};
 ghost use Rattle.inc_pp.specs.StateViews.{state_of};
 ghost use Rattle.inc_pp.specs.Stops.{IfStop, IsIn, AreOf};
-ghost use Rattle.inc_pp.specs.Tasks.{File};
+ghost use Rattle.inc_pp.specs.Tasks.{File, IsWithin};
 ghost use Rattle.inc_pp.specs.Walks.{lines_read};
 
 use crate::causes::Cause;
@@ -114,7 +114,7 @@ impl HeldFile {
             found frame.new.part (state_of state.new) frame.new.here) }
         ensures onward { OnOk result (frame.old.part < frame.new.part) }
         ensures same { OnOk result (frame.new.at ≡ frame.old.at) }
-        ensures found { IfOk result (λ found. IfSome found (λ k. (k.at.file < length project.now.paths)
+        ensures found { IfOk result (λ found. IfSome found (λ k. IsWithin project.now k
             × (nests ≡ true) × (length (state_of state.new).reads < most_reads))) }
         ensures reads { (state_of state.new).reads ≡ (state_of state.old).reads }
         ensures stop { IfErr result (λ fault. IfStop fault (λ at cause. (f : File) →

@@ -81,7 +81,11 @@ impl Here {
         requires { entry.at.file < length project.now.paths }
         ensures { IfOk result (λ here. here ≡ start project.now entry) }
     {
-        let Entry { at, standing } = entry;
+        let Entry {
+            at,
+            standing,
+            by: _,
+        } = entry;
         let name = literal_of(alloc, standing.path(project, at.file))?;
         Ok(Here {
             shift: 0,

@@ -7,7 +7,7 @@ ghost use Rattle.inc_pp.specs.HeldFiles.{IsPlanned};
 ghost use Rattle.inc_pp.specs.Includes.{most_reads};
 ghost use Rattle.inc_pp.specs.StateViews.{state_of};
 ghost use Rattle.inc_pp.specs.Stops.{IfStop, IsSearched, IsUnder, IsIn, AreOf};
-ghost use Rattle.inc_pp.specs.Tasks.{File};
+ghost use Rattle.inc_pp.specs.Tasks.{File, IsWithin};
 ghost use Rattle.inc_pp.specs.Tasks as spec;
 ghost use Rattle.inc_pp.specs.Walks.{lines_read};
 
@@ -137,7 +137,7 @@ fn read_control(
         found frame.new.part (state_of state.new) frame.new.here) }
     ensures onward { OnOk result (frame.old.part < frame.new.part) }
     ensures same { OnOk result (frame.new.at ≡ frame.old.at) }
-    ensures found { IfOk result (λ found. IfSome found (λ k. (k.at.file < length project.now.paths)
+    ensures found { IfOk result (λ found. IfSome found (λ k. IsWithin project.now k
         × (nests ≡ true) × (length (state_of state.new).reads < most_reads))) }
     ensures reads { (state_of state.new).reads ≡ (state_of state.old).reads }
     ensures stop { IfErr result (λ fault. IfStop fault (λ at cause. (f : File) →
@@ -182,7 +182,7 @@ pub(crate) fn read_on(
         found frame.new.part (state_of state.new) frame.new.here) }
     ensures onward { OnOk result (frame.old.part < frame.new.part) }
     ensures same { OnOk result (frame.new.at ≡ frame.old.at) }
-    ensures found { IfOk result (λ found. IfSome found (λ k. (k.at.file < length project.now.paths)
+    ensures found { IfOk result (λ found. IfSome found (λ k. IsWithin project.now k
         × (nests ≡ true) × (length (state_of state.new).reads < most_reads))) }
     ensures reads { (state_of state.new).reads ≡ (state_of state.old).reads }
     ensures stop { IfErr result (λ fault. IfStop fault (λ at cause. (f : File) →

@@ -16,7 +16,8 @@ pub enum Missing {
     Empty,
 }
 
-/// Language, date and time, what an include directive does whose header is not found, whether lines are marked, and how files are called.
+/// Language, date and time, what an include directive does whose header is not found, whether lines are marked, how files are called, and
+/// how much is read at most.
 #[derive(Drop)]
 pub struct Settings<'n> {
     language: Language,
@@ -27,6 +28,7 @@ pub struct Settings<'n> {
     has_markers: bool,
     source: Option<&'n [u8]>,
     dirs: &'n [NamedDir<'n>],
+    most_read: Option<u64>,
 }
 
 impl<'n> Model for Settings<'n> {
@@ -44,11 +46,12 @@ impl<'n> Model for Settings<'n> {
       has_markers = s.has_markers;
       source = option_map (λ n. n.now) s.source;
       dirs = s.dirs.now;
+      most_read = s.most_read;
     } };
 }
 
 impl<'n> Settings<'n> {
-    /// Without line markers, and without names of the source and of directories; `None` where a byte of the date, the time or the
+    /// Without line markers, names of the source and of directories, and a limit; `None` where a byte of the date, the time or the
     /// timestamp is not printable ASCII, or is `"` or `\`.
     pub fn new(
         language: Language,
@@ -71,10 +74,11 @@ impl<'n> Settings<'n> {
             has_markers: false,
             source: None,
             dirs: &[],
+            most_read: None,
         })
     }
 
-    /// The date `Jan  1 1970`, the time `00:00:00` and the timestamp of both, without line markers and names.
+    /// The date `Jan  1 1970`, the time `00:00:00` and the timestamp of both, without line markers, names and a limit.
     pub fn usual(language: Language, missing: Missing) -> Settings<'n>
         ensures { result ≡ spec.usual_settings language missing }
     {
@@ -87,6 +91,7 @@ impl<'n> Settings<'n> {
             has_markers: false,
             source: None,
             dirs: &[],
+            most_read: None,
         }
     }
 
@@ -96,8 +101,14 @@ impl<'n> Settings<'n> {
         has_markers: bool,
         source: Option<&'n [u8]>,
         dirs: &'n [NamedDir<'n>],
+        most_read: Option<u64>,
     ) -> Settings<'n>
-        ensures { result ≡ record self.now { has_markers = has_markers; source = option_map (λ n. n.now) source.entry; dirs = dirs.now } }
+        ensures { result ≡ record self.now {
+          has_markers = has_markers;
+          source = option_map (λ n. n.now) source.entry;
+          dirs = dirs.now;
+          most_read = most_read;
+        } }
     {
         Settings {
             language: self.language,
@@ -108,6 +119,7 @@ impl<'n> Settings<'n> {
             has_markers,
             source,
             dirs,
+            most_read,
         }
     }
 
@@ -116,7 +128,7 @@ impl<'n> Settings<'n> {
     pub fn with_markers(&self, has_markers: bool) -> Settings<'n>
         ensures { result ≡ spec.marked_settings has_markers self.now }
     {
-        self.with(has_markers, self.source, self.dirs)
+        self.with(has_markers, self.source, self.dirs, self.most_read)
     }
 
     /// The same, with the path by which the source is named: GNU C calls it and the headers beside it by that. Without one it is called
@@ -124,7 +136,7 @@ impl<'n> Settings<'n> {
     pub fn with_source(&self, source: &'n [u8]) -> Settings<'n>
         ensures { result ≡ spec.sourced_settings source.now self.now }
     {
-        self.with(self.has_markers, Some(source), self.dirs)
+        self.with(self.has_markers, Some(source), self.dirs, self.most_read)
     }
 
     /// The same, with the directories of the include path, one for each that the project has, in its order. GNU C calls the headers
@@ -133,7 +145,15 @@ impl<'n> Settings<'n> {
     pub fn with_dirs(&self, dirs: &'n [NamedDir<'n>]) -> Settings<'n>
         ensures { result ≡ spec.found_in_settings dirs.now self.now }
     {
-        self.with(self.has_markers, self.source, dirs)
+        self.with(self.has_markers, self.source, dirs, self.most_read)
+    }
+
+    /// The same, with a limit of the bytes that are read, or without one: those of the source and of each file that it includes, of one
+    /// that is read twice twice. Where the bytes of a file pass it, the preprocessing stops.
+    pub fn with_most_read(&self, most_read: Option<u64>) -> Settings<'n>
+        ensures { result ≡ spec.limited_settings most_read self.now }
+    {
+        self.with(self.has_markers, self.source, self.dirs, most_read)
     }
 
     /// The language.
@@ -192,6 +212,16 @@ impl<'n> Settings<'n> {
         match self.source {
             Some(source) => source,
             None => &[],
+        }
+    }
+
+    /// Whether so many bytes are more than may be read.
+    pub(crate) fn is_too_much(&self, bytes: u64) -> bool
+        ensures { result ≡ spec.is_too_much self.now.most_read bytes }
+    {
+        match self.most_read {
+            Some(most) => bytes > most,
+            None => false,
         }
     }
 

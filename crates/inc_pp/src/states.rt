@@ -29,6 +29,8 @@ pub(crate) struct State {
     pub(crate) budget: Budget,
     /// The files read so far.
     reads: FilesRead,
+    /// How many bytes they have, those of a file that was read twice counted twice.
+    bytes_read: u64,
     pub(crate) output: Output,
 }
 
@@ -45,6 +47,7 @@ impl State {
             poisoned: DistinctNames::new(alloc),
             budget: Budget::new(),
             reads: FilesRead::new(alloc),
+            bytes_read: 0,
             output: Output::new(alloc),
         }
     }
@@ -56,11 +59,24 @@ impl State {
         self.reads.files()
     }
 
-    /// Adds a file to those that were read.
-    pub(crate) fn add_read(&mut self, file: FileId) -> Result<(), AllocError>
-        ensures { OnOk result (state_of self.new ≡ with_read file (state_of self.old)) }
+    /// Adds a file of so many bytes to those that were read.
+    pub(crate) fn add_read(&mut self, file: FileId, size: usize) -> Result<(), AllocError>
+        ensures { OnOk result (state_of self.new ≡ with_read file size (state_of self.old)) }
     {
-        self.reads.add(file)
+        // No memory holds the numbers of so many files.
+        let Some(bytes_read) = self.bytes_read.checked_add(size as u64) else {
+            return Err(AllocError);
+        };
+        self.reads.add(file)?;
+        self.bytes_read = bytes_read;
+        Ok(())
+    }
+
+    /// How many bytes were read.
+    pub(crate) fn bytes_read(&self) -> u64
+        ensures { result ≡ (state_of self.now).bytes_read }
+    {
+        self.bytes_read
     }
 
     /// How many files were read.

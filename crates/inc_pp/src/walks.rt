@@ -8,8 +8,9 @@ ghost use Rattle.inc_pp.specs.Walks.{held_at, parts_in};
 ghost use Rattle.inc_directive.specs.Parts.{FilePart};
 ghost use Rattle.inc_pp.specs.HeldFiles.{IsSkipped, NonePoisoned};
 ghost use Rattle.inc_pp.specs.WalkStates.{IsWalk, IsEntering, IsOver, EndsBy};
-ghost use Rattle.inc_pp.specs.Tasks.{begun};
+ghost use Rattle.inc_pp.specs.Tasks.{IsWithin, begun};
 
+use crate::causes::Cause;
 use crate::entries::Entry;
 use crate::faults::Break;
 use crate::files::Files;
@@ -57,7 +58,7 @@ impl<'j, 'r> Job<'j, 'r> {
         at_hand: &mut FileId,
         to: Entry,
     ) -> Result<(), Break>
-        requires within { to.at.file < length self.now.project.now.paths }
+        requires within { IsWithin self.now.project.now to }
         requires wide { length files.old ≡ length self.now.project.now.paths }
         ensures entered { OnOk result ((origin : S) (source : ℕ) (table : Table) (earlier : List Given) →
             IsEntering S.gives origin sources.old (job_in self.now source table earlier) files.old
@@ -81,22 +82,26 @@ impl<'j, 'r> Job<'j, 'r> {
         let at = to.at;
         let file = at.file;
         *at_hand = file;
-        state.add_read(file)?;
-        if is_skipped(files, file, state) {
-            return Ok(());
+        let removed = self.removed;
+        let language = self.settings.language();
+        let size = match files.known_size(self.alloc, sources, removed, language, file) {
+            Ok(size) => size,
+            Err(why) => return Err(why),
+        };
+        state.add_read(file, size)?;
+        if self.settings.is_too_much(state.bytes_read()) {
+            let by = to.by;
+            *at_hand = by.file;
+            return Err(Break::Stop {
+                line: by.line,
+                cause: Cause::TooMuchRead,
+            });
         }
-        if files.get(file).is_some() {
-            self.open(frames, to)?;
-            let _parts = count_in(files, file);
+        if is_skipped(files, file, state) {
             return Ok(());
         }
         if let Some((cause, line)) = files.fault(file) {
             return Err(Break::Stop { line, cause });
-        }
-        let removed = self.removed;
-        match files.load(self.alloc, sources, removed, self.settings.language(), file) {
-            Ok(()) => {}
-            Err(why) => return Err(why),
         }
         self.open(frames, to)?;
         let _parts = count_in(files, file);

@@ -26,6 +26,7 @@ use Rattle.inc_report.specs.KeptFiles.{AreAllKept, Fits, OfKept, keeps, kept_at}
 use Rattle.inc_report.specs.Known.{IsKnown}
 use Rattle.inc_report.specs.Printed.{Printed, answered}
 use Rattle.inc_report.specs.Questions.{Answer, FailsAt, IsAnswerBy, unread_by}
+use Rattle.inc_report.specs.Strictness.{Strict, open_strays_of}
 use Rattle.inc_report.specs.Terms.{Question, Limits, named_directives, setting_in}
 use Rattle.inc_report.specs.Writing.{unread_of}
 use Rattle.inc_report.specs.declared.kept_sources.KeptSources.{KeptSources}
@@ -36,7 +37,7 @@ use Rattle.inc_report.specs.declared.outcome.RunFault.TheVariants as fault
 use Rattle.inc_report.specs.declared.questions.NoGraph.{NoGraph}
 use Rattle.inc_report.proofs.BlankedCuts.{blanked_cut_keeps_headers_out}
 use Rattle.inc_report.proofs.ChangedListings.{changed_is_blanked}
-use Rattle.inc_report.proofs.HeadlineLemmas.{IsTold, told_of, stated_yes, stated_no, unhindered_told, ends_apart, answered_negative, wholly_fixed}
+use Rattle.inc_report.proofs.HeadlineLemmas.{IsTold, told_of, stated_yes, stated_no, unhindered_told, ends_apart, answered_negative, unless_told, wholly_fixed}
 use Rattle.inc_report.proofs.KeptOut.{of_names_once}
 use Rattle.inc_report.proofs.KeptLemmas.{fits_given, fits_unread, holds_inner, kept_given}
 use Rattle.inc_report.proofs.KnownParts.{OfKnown}
@@ -142,14 +143,15 @@ module _ (text : List Change → List ℕ) (q : Question) (l : Limits) (p : Prin
   layout = layout_of listing
 
   abbrev pub OfChanges : Answer
-  OfChanges = OfKnown (WithAmounts l (AreChangesOf text q.language listing))
+  OfChanges = OfKnown (Strict (open_strays_of q) (WithAmounts l (AreChangesOf text q.language listing)))
 
   told_changes : (end : p.end.kind ≡ Answered) (t : IsTold OfChanges q listing p) → (cs : List Change) × (p.text ≡ text cs) × ChangesKeepHeadersOut q l listing cs
   told_changes end t =
       let g : Graph = t.graph in
       let amounts : List ℕ = amounts_by layout g l.kept l.fixed l.costs in
       let known : IsKnown layout g = t.told.0 in
-      let u = unhindered_told layout g.blockers (marks_refusal layout g l.fixed l.costs) (AreChangesOf text q.language listing layout g amounts) p (stated_yes p end) t.told.1 in
+      let u = unhindered_told layout g.blockers (marks_refusal layout g l.fixed l.costs) (AreChangesOf text q.language listing layout g amounts) p (stated_yes p end)
+      (unless_told layout (open_strays_of q g) (WithAmounts l (AreChangesOf text q.language listing) layout g) p (stated_yes p end) t.told.1) in
       elim u.1 [
         | inl cut ↦
             let set : List ℕ = cut.0 in
@@ -179,7 +181,8 @@ module _ (text : List Change → List ℕ) (q : Question) (l : Limits) (p : Prin
   told_fixed end t =
       let g : Graph = t.graph in
       let amounts : List ℕ = amounts_by layout g l.kept l.fixed l.costs in
-      let u = unhindered_told layout g.blockers (marks_refusal layout g l.fixed l.costs) (AreChangesOf text q.language listing layout g amounts) p (stated_no p end) t.told.1 in
+      let u = unhindered_told layout g.blockers (marks_refusal layout g l.fixed l.costs) (AreChangesOf text q.language listing layout g amounts) p (stated_no p end)
+      (unless_told layout (open_strays_of q g) (WithAmounts l (AreChangesOf text q.language listing) layout g) p (stated_no p end) t.told.1) in
       elim u.1 [
         | inl cut ↦ absurd (ends_apart p Answered Negative (ap (λ (r : Printed). r.end.kind) cut.2) end answered_negative)
         | inr none ↦ wholly_fixed OfChanges q l p listing t none
@@ -194,15 +197,15 @@ module _ (text : List Change → List ℕ) (q : Question) (l : Limits) (p : Prin
 -- so of what is printed of the graph and of the files that are kept
 module _ {S : Type 0} (gives : S → ℕ → Result (List ℕ) ReadFault → S → Type 0) (old new : KeptSources S) (layout : Layout) (text : List Change → List ℕ) (q : Question) (l : Limits) (p : Printed) where
   pub kept_headline : (graph : Graph) (n : ℕ) → old.files ≡ replicate n None → IsKnown layout graph
-      → OfKept new.files layout (λ listing. WithAmounts l (AreChangesOf text q.language listing) layout graph p)
+      → OfKept new.files layout (λ listing. Strict (open_strays_of q) (WithAmounts l (AreChangesOf text q.language listing)) layout graph p)
       → HoldsOfGiven (keeps gives) old new layout (IsAnswerBy (λ l g r. g ≡ graph) q p)
       → HoldsOfGiven gives old.sources new.sources layout (λ given listing. ChangesHeadline text q l p listing)
   kept_headline graph n none known told holds =
-      given_all (of_kept gives old new layout q (λ listing. OfKnown (WithAmounts l (AreChangesOf text q.language listing))) p graph n none (λ listing laid fits. (known, told listing laid fits)) holds)
+      given_all (of_kept gives old new layout q (λ listing. OfKnown (Strict (open_strays_of q) (WithAmounts l (AreChangesOf text q.language listing)))) p graph n none (λ listing laid fits. (known, told listing laid fits)) holds)
       (λ given listing laid is. changes_headline text q l p given listing is)
 
   pub refused_headline : HoldsOfGiven (keeps gives) old new layout (IsAnswerBy (λ l g r. ⊥) q p)
       → HoldsOfGiven gives old.sources new.sources layout (λ given listing. ChangesHeadline text q l p listing)
   refused_headline holds =
-      given_all (of_no_graph gives old new layout q (λ listing. OfKnown (WithAmounts l (AreChangesOf text q.language listing))) p holds)
+      given_all (of_no_graph gives old new layout q (λ listing. OfKnown (Strict (open_strays_of q) (WithAmounts l (AreChangesOf text q.language listing)))) p holds)
       (λ given listing laid is. changes_headline text q l p given listing is)

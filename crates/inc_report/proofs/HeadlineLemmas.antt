@@ -9,6 +9,7 @@ use Rattle.inc_lookup.specs.Projects.{Layout, Listing, layout_of, path_at}
 use Rattle.inc_graph.specs.Cuts.{fixed_by, costs_by, directives_of}
 use Rattle.inc_graph.specs.IncludeGraph.{Graph, IsGraphAnswer}
 use Rattle.inc_graph.specs.MarkedEdges.{amounts_by}
+use Rattle.inc_graph.specs.MissingLists.{Missing}
 use Rattle.inc_graph.specs.declared.building.GraphRefusal.{GraphRefusal}
 use Rattle.inc_graph.specs.declared.building.GraphRefusal.TheVariants as graph
 use Rattle.inc_graph.specs.declared.graphs.Blocker.{Blocker}
@@ -31,6 +32,7 @@ use Rattle.inc_report.specs.Printed.{Printed}
 use Rattle.inc_report.specs.Questions.{Answer, IsAnswer, IsAnswerBy, WithFiles, WithGraph, OfGraph, IsRefusalOf, no_header, no_source}
 use Rattle.inc_report.specs.Refusals.{Refusal, refusal, TooManyDirectives, Malformed}
 use Rattle.inc_report.specs.Known.{IsKnown}
+use Rattle.inc_report.specs.Strictness.{Strict, Unless, not_found, open_strays_of}
 use Rattle.inc_report.proofs.KnownParts.{OfKnown}
 use Rattle.inc_directive.specs.declared.files.FileFault.{FileFault}
 use Rattle.inc_report.specs.FaultReasons.{bad_file}
@@ -40,6 +42,7 @@ use Rattle.inc_report.specs.declared.outcome.EndKind.TheVariants.{Answered, Nega
 use Rattle.inc_report.proofs.FitLemmas.{fits_text}
 use Rattle.inc_report.proofs.KeptOut.{answered_cut_keeps_headers_out, of_names_once}
 use Rattle.inc_report.proofs.NamedDirectives.{named_edges}
+use Rattle.inc_report.proofs.StrictLemmas.{unless_all}
 
 ---- a question that is not refused
 
@@ -53,6 +56,10 @@ never_refused r p is stated = stated (ap (λ (q : Printed). q.end.kind) is)
 never_blocked : (layout : Layout) (bs : List Blocker) (p : Printed) → p ≡ blocked layout bs → IsStated p → ⊥
 unfolding IsStated
 never_blocked layout bs p is stated = stated (ap (λ (r : Printed). r.end.kind) is)
+
+never_missing : (layout : Layout) (ms : List Missing) (p : Printed) → p ≡ not_found layout ms → IsStated p → ⊥
+unfolding IsStated
+never_missing layout ms p is stated = stated (ap (λ (r : Printed). r.end.kind) is)
 
 never_bad_file : (path : List ℕ) (fault : FileFault) (p : Printed) → p ≡ bad_file path path fault → IsStated p → ⊥
 unfolding IsStated
@@ -119,6 +126,11 @@ unhindered_told layout (b ∷ bs) fault Told p stated is = absurd (never_blocked
 unhindered_told layout [] (Some r) Told p stated is = absurd (never_refused r p is stated)
 unhindered_told layout [] None Told p stated is = (refl, is)
 
+-- what is stated is no refusal of directives whose header is not found
+pub unless_told : (layout : Layout) (ms : List Missing) (Told : Printed → Type 0) (p : Printed) → IsStated p → Unless layout ms Told p → Told p
+unless_told layout [] Told p stated is = is
+unless_told layout (m ∷ ms) Told p stated is = absurd (never_missing layout (m ∷ ms) p is stated)
+
 ---- a certificate that a checker says yes to
 
 holds : (b : Bool) → (IsTrue (not b) → ⊥) → b ≡ true
@@ -160,14 +172,15 @@ is_yes notes Yes p is end = refl
 is_yes notes (No r) p is end = let same : Negative ≡ Answered = sym (ap (λ (q : Printed). q.end.kind) is) ∙ end in cc
 
 pub check_headline : (q : Question) (l : Limits) (text : List ℕ) (p : Printed) (given : List Given) (listing : Listing)
-    → IsAnswerBy (OfKnown (WithAmounts l (IsCheckOf text))) q p given listing → CheckHeadline q l text p listing
+    → IsAnswerBy (OfKnown (Strict (open_strays_of q) (WithAmounts l (IsCheckOf text)))) q p given listing → CheckHeadline q l text p listing
 check_headline q l text p given listing is end =
     let layout : Layout = layout_of listing in
     let stated : IsStated p = stated_yes p end in
-    let t = told_of (OfKnown (WithAmounts l (IsCheckOf text))) q listing p stated is.0 in
+    let t = told_of (OfKnown (Strict (open_strays_of q) (WithAmounts l (IsCheckOf text)))) q listing p stated is.0 in
     let g : Graph = t.graph in
     let amounts : List ℕ = amounts_by layout g l.kept l.fixed l.costs in
-    let u = unhindered_told layout g.blockers (marks_refusal layout g l.fixed l.costs) (IsCheckOf text layout g amounts) p stated t.told.1 in
+    let u = unhindered_told layout g.blockers (marks_refusal layout g l.fixed l.costs) (IsCheckOf text layout g amounts) p stated
+    (unless_told layout (open_strays_of q g) (WithAmounts l (IsCheckOf text) layout g) p stated t.told.1) in
     elim u.1 [
       | inl malformed ↦ absurd (never_refused (Malformed malformed.0) p malformed.2 stated)
       | inr verdict ↦ (
@@ -193,6 +206,12 @@ pub fit_answer : (l : Limits) (layout : Layout) (g : Graph) (p : Printed) → Wi
 fit_answer l layout g p is =
     let amounts : List ℕ = amounts_by layout g l.kept l.fixed l.costs in
     unhindered_all layout g.blockers (marks_refusal layout g l.fixed l.costs) (IsFitCutOf layout g amounts) (IsCutOf layout g amounts) p (fit_cut layout g amounts p) is
+
+-- the same of a question, which may be strict
+pub fit_strictly : (q : Question) (l : Limits) (layout : Layout) (g : Graph) (p : Printed) → Strict (open_strays_of q) (WithAmounts l IsFitCutOf) layout g p
+    → Strict (open_strays_of q) (WithAmounts l IsCutOf) layout g p
+fit_strictly q l layout g p is =
+    unless_all layout (open_strays_of q g) (WithAmounts l IsFitCutOf layout g) (WithAmounts l IsCutOf layout g) p (fit_answer l layout g p) is
 
 pub ends_apart : (p : Printed) (a b : EndKind) → p.end.kind ≡ a → p.end.kind ≡ b → (a ≡ b → ⊥) → ⊥
 ends_apart p a b is_a is_b apart = apart (sym is_a ∙ is_b)
@@ -220,14 +239,15 @@ module _ (q : Question) (l : Limits) (p : Printed) (given : List Given) (listing
   layout = layout_of listing
 
   abbrev Fit : Answer
-  Fit = OfKnown (WithAmounts l IsFitCutOf)
+  Fit = OfKnown (Strict (open_strays_of q) (WithAmounts l IsFitCutOf))
 
   told_cut : (end : p.end.kind ≡ Answered) (t : IsTold Fit q listing p) → (c : Certificate) × IsCertificateText p.text c × KeepsHeadersOut q l listing c
   told_cut end t =
       let g : Graph = t.graph in
       let amounts : List ℕ = amounts_by layout g l.kept l.fixed l.costs in
       let known : IsKnown layout g = t.told.0 in
-      let u = unhindered_told layout g.blockers (marks_refusal layout g l.fixed l.costs) (IsFitCutOf layout g amounts) p (stated_yes p end) t.told.1 in
+      let u = unhindered_told layout g.blockers (marks_refusal layout g l.fixed l.costs) (IsFitCutOf layout g amounts) p (stated_yes p end)
+      (unless_told layout (open_strays_of q g) (WithAmounts l IsFitCutOf layout g) p (stated_yes p end) t.told.1) in
       elim u.1 [
         | inl fit ↦
             let c : Certificate = certificate_of layout g fit.0 fit.1 in
@@ -242,7 +262,8 @@ module _ (q : Question) (l : Limits) (p : Printed) (given : List Given) (listing
   told_none end t =
       let g : Graph = t.graph in
       let amounts : List ℕ = amounts_by layout g l.kept l.fixed l.costs in
-      let u = unhindered_told layout g.blockers (marks_refusal layout g l.fixed l.costs) (IsFitCutOf layout g amounts) p (stated_no p end) t.told.1 in
+      let u = unhindered_told layout g.blockers (marks_refusal layout g l.fixed l.costs) (IsFitCutOf layout g amounts) p (stated_no p end)
+      (unless_told layout (open_strays_of q g) (WithAmounts l IsFitCutOf layout g) p (stated_no p end) t.told.1) in
       elim u.1 [
         | inl fit ↦ absurd (ends_apart p Answered Negative (ap (λ (q : Printed). q.end.kind) fit.4) end answered_negative)
         | inr none ↦ wholly_fixed Fit q l p listing t none

@@ -19,6 +19,7 @@ pub mod RuleLemmas
 pub mod NameOrder
 pub mod NameLemmas
 pub mod SourcePaths
+pub mod StrictLemmas
 pub mod QuestionLemmas
 pub mod KeptLines
 pub mod ReadWalks

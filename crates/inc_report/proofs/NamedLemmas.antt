@@ -1,5 +1,5 @@
 -- What is printed in which directives stand as they are written, by what was read and kept, and what that promises.
-use Rattle.std.proofs.Common.{◌≡◌, ◌≢◌, ℕ, ◌<◌, Bool, true, false, ◌==◌, List, [], ◌∷◌, ◌++◌, Option, Some, None, Result, Ok, length, get_or, is_some, inl, inr, refl, sym, ap, subst, ◌∙◌, arith}
+use Rattle.std.proofs.Common.{◌≡◌, ◌≢◌, ℕ, ◌<◌, Bool, true, false, ◌==◌, List, [], ◌∷◌, ◌++◌, Option, Some, None, Result, Ok, length, get_or, is_some, inl, inr, refl, sym, ap, ap₂, subst, ◌∙◌, arith}
 use Rattle.std.specs.Prelude.{map, option_and_then, replicate, IsTrue}
 use Rattle.std.specs.List.{All, list_any}
 use Rattle.std.proofs.lemmas.Bool.{eqb-false, or_parts}
@@ -11,7 +11,7 @@ use Rattle.inc_text.specs.declared.languages.Language.{Language}
 use Rattle.inc_directive.specs.LineKinds.{LineKind}
 use Rattle.inc_lookup.specs.declared.projects.DirectiveId.{DirectiveId}
 use Rattle.inc_lookup.specs.Given.{Given, Agrees, HoldsOfGiven}
-use Rattle.inc_lookup.specs.Projects.{Layout, Listing, layout_of, bytes_at}
+use Rattle.inc_lookup.specs.Projects.{Layout, Listing, layout_of, bytes_at, path_at}
 use Rattle.inc_lookup.proofs.GivenLemmas.{given_all, laid_count, laid_with, with_bytes, agrees_more}
 use Rattle.inc_graph.specs.Cuts.{fixed_by, directives_of}
 use Rattle.inc_graph.specs.IncludeGraph.{Graph, IsGraphAnswer}
@@ -25,15 +25,17 @@ use Rattle.inc_report.specs.BlockedReasons.{blocked_reasons}
 use Rattle.inc_report.specs.DirectiveNames.{kept_kind, kept_name, kind_at, kind_of, name_of, written}
 use Rattle.inc_report.specs.Documents.{AreGraphKept, AreKept, Block, IsKept, Led, Place, Words, block_text, document_text}
 use Rattle.inc_report.specs.JsonAnswers.{About, about_subject, kept_about}
-use Rattle.inc_report.specs.JsonRefusals.{mark_items, refusal_json, refusal_object}
+use Rattle.inc_report.specs.JsonDirectives.{directive_text}
+use Rattle.inc_report.specs.JsonRefusals.{mark_items, refusal_json, refusal_object, stray_item}
 use Rattle.inc_report.specs.KeptFiles.{Fits, Kept, OfKept, keeps, kept_at}
 use Rattle.inc_report.specs.Known.{IsKnown}
 use Rattle.inc_report.specs.NamedHeadline.{HasGraph, NamedCutHeadline, NamedHeadline, NamedIsFixed, NamedKeepsHeadersOut}
-use Rattle.inc_report.specs.NamedText.{IsHinderedKept, IsInAnyFormat, IsInFormat, IsNamedAs, IsNamedBy, IsNamedKept, IsNamedOf, IsObject, IsReport, IsReportOf, about, answer_document, answer_json, answer_lines, answer_text, command_name, printed_answer}
+use Rattle.inc_report.specs.NamedText.{IsHinderedKept, IsInAnyFormat, IsInFormat, IsNamedAs, IsNamedBy, IsNamedKept, IsNamedOf, IsObject, IsReport, IsReportOf, IsStrictKept, IsStrictOf, about, answer_document, answer_json, answer_lines, answer_text, command_name, printed_answer}
 use Rattle.inc_report.specs.Printed.{Printed, answered, end_of, reached_kind, refused_for}
 use Rattle.inc_report.specs.Questions.{Answer, IsAnswerBy}
-use Rattle.inc_report.specs.Refusals.{Blocked, Refusal, refusal, refusal_for}
+use Rattle.inc_report.specs.Refusals.{Blocked, NotFound, Refusal, refusal, refusal_for}
 use Rattle.inc_report.specs.Terms.{Question, Limits, named_directives, setting_in}
+use Rattle.inc_report.specs.Strictness.{Strict, asked_strays_of, not_found, open_strays_of, stray_reasons}
 use Rattle.inc_report.specs.Told as report
 use Rattle.inc_report.specs.Told.{Chains, Edges, FixedChain, IsAnswerOf, Removed, Sources, end_kind, notes_of}
 use Rattle.inc_report.specs.Views.{seen_refusal}
@@ -51,12 +53,13 @@ use Rattle.inc_report.specs.declared.refusals.Refusal.TheVariants as refused
 use Rattle.inc_report.specs.declared.subjects.Subject.{Subject}
 use Rattle.inc_report.proofs.BlankLemmas.{all_kept}
 use Rattle.inc_report.proofs.CutLemmas.{unhindered}
-use Rattle.inc_report.proofs.HeadlineLemmas.{IsTold, told_of, stated_yes, stated_no, unhindered_all, unhindered_told, ends_apart, answered_negative}
+use Rattle.inc_report.proofs.HeadlineLemmas.{IsTold, told_of, stated_yes, stated_no, unhindered_all, unhindered_told, unless_told, ends_apart, answered_negative}
 use Rattle.inc_report.proofs.JsonKept.{AreSame, cut_same, fixed_same, graph_same, items_same, who_same, why_same}
 use Rattle.inc_report.proofs.KeptDirectives.{cut_kept, fixed_kept, links_kept, who_kept, why_kept}
 use Rattle.inc_report.proofs.KeptLemmas.{fits_given, fits_unread, holds_inner, kept_given}
 use Rattle.inc_report.proofs.KeptOut.{answered_cut_keeps_headers_out, of_names_once}
 use Rattle.inc_report.proofs.QuestionLemmas.{answer_all}
+use Rattle.inc_report.proofs.StrictLemmas.{strays_all, unless_none, unless_some}
 use Rattle.inc_report.proofs.UnresolvedTexts.{blocker_in_text, missing_in_text}
 
 -- a text, and how the call ends
@@ -107,6 +110,20 @@ module _ (language : Language) (kept : Kept) (layout : Layout) (listing : Listin
     blocked_same command =
         ap (λ (items : List (List ℕ)). refusal_object command (Blocked layout g.blockers) items)
         (items_same layout g (kept_kind language kept) (kind_of language listing) g.blockers all_same.blockers)
+
+    -- and so are those that are not found
+    pub strays_same : (command : List ℕ) (ms : List Missing) → All (λ (m : Missing). IsTrue (is_some (kept_at kept m.file))) ms
+        → refusal_json command (kept_kind language kept) (NotFound layout ms) ≡ refusal_json command (kind_of language listing) (NotFound layout ms)
+    strays_same command ms there =
+        ap (λ (items : List (List ℕ)). refusal_object command (NotFound layout ms) items) (each_stray ms there)
+      where
+        each_stray : (ms : List Missing) → All (λ (m : Missing). IsTrue (is_some (kept_at kept m.file))) ms
+            → map (stray_item (kept_kind language kept) layout) ms ≡ map (stray_item (kind_of language listing) layout) ms
+        each_stray [] all = refl
+        each_stray (m ∷ ms) all =
+            ap₂ (λ (x : List ℕ) (xs : List (List ℕ)). x ∷ xs)
+            (ap (λ (k : LineKind). directive_text k m.line (path_at layout m.file) None) (kind_same (record { file = m.file; line = m.line }) (All-head (λ (x : Missing). IsTrue (is_some (kept_at kept x.file))) m ms all)))
+            (each_stray ms (All-tail (λ (x : Missing). IsTrue (is_some (kept_at kept x.file))) m ms all))
 
     document_kept : (all costed : Bool) (most : Option ℕ) (answer : report.Answer) → AreKept kept (answer_document all costed most layout g answer)
     document_kept all costed most (Chains shortest chains) = why_kept kept g held all most layout shortest chains
@@ -295,6 +312,51 @@ module _ (form : NamedForm) (l : Limits) (s : Subject) (held : AreGraphKept s.gr
     λ listing laid fits. object_of_refusal ask.Cut (kind_of s.language listing) [] r p is,
   )
 
+  ---- directives whose header is not found
+
+  abbrev Strays : Question → List Missing
+  Strays q = asked_strays_of form.asked q s.graph.now
+
+  -- the answer, where all of them are excepted
+  pub strict_none : (q : Question) → Strays q ≡ [] → IsNamedKept form l s p → IsStrictKept form q l s p
+  strict_none q none is = (
+    is.0,
+    λ listing laid fits. (
+      unless_none own (Strays q) (IsNamedOf form l s.language listing own s.graph.now) is.0 none (is.1 listing laid fits).0,
+      (is.1 listing laid fits).1,
+    ),
+  )
+
+  -- their refusal as text
+  pub strict_text : (q : Question) → Strays q ≢ [] → form.format ≢ Json → p ≡ not_found own (Strays q) → IsStrictKept form q l s p
+  strict_text q some format is = (
+    p,
+    λ listing laid fits. (
+      unless_some own (Strays q) (IsNamedOf form l s.language listing own s.graph.now) p some is,
+      text_format form (kind_of s.language listing) p format,
+    ),
+  )
+
+  -- and as an object
+  pub strict_object : (q : Question) → Strays q ≢ [] → form.format ≡ Json
+      → p ≡ refused_for (stray_reasons own (Strays q)) (refusal_json (command_name form.asked) (kept_kind s.language s.files.now) (NotFound own (Strays q)))
+      → IsStrictKept form q l s p
+  strict_object q some format is = (
+    not_found own (Strays q),
+    λ listing laid fits. (
+      unless_some own (Strays q) (IsNamedOf form l s.language listing own s.graph.now) (not_found own (Strays q)) some refl,
+      json_format form (kind_of s.language listing) (not_found own (Strays q)) p format
+          (inl (
+            stray_reasons own (Strays q),
+            NotFound own (Strays q),
+            refl,
+            is ∙ ap (refused_for (stray_reasons own (Strays q)))
+                (strays_same s.language s.files.now own listing fits s.graph.now held (command_name form.asked) (Strays q)
+                (strays_all (λ (m : Missing). IsTrue (is_some (kept_at s.files.now m.file))) form.asked q s.graph.now held.missing)),
+          )),
+    ),
+  )
+
 ---- the files of a graph
 
 module _ {S : Type 0} (gives : S → ℕ → Result (List ℕ) ReadFault → S → Type 0) (old new : KeptSources S) (layout : Layout) (q : Question) (graph : Graph) (known : IsKnown layout graph) (n : ℕ)
@@ -349,7 +411,7 @@ module _ {S : Type 0} (gives : S → ℕ → Result (List ℕ) ReadFault → S �
 
 module _ {S : Type 0} (gives : S → ℕ → Result (List ℕ) ReadFault → S → Type 0) (old new : KeptSources S) (layout : Layout) (form : NamedForm) (q : Question) (l : Limits) (p : Printed) where
   pub named_given : (plain : Printed) (graph : Graph) (n : ℕ) → old.files ≡ replicate n None
-      → OfKept new.files layout (λ listing. IsNamedOf form l q.language listing layout graph plain × IsInFormat form (kind_of q.language listing) plain p)
+      → OfKept new.files layout (λ listing. IsStrictOf form q l q.language listing layout graph plain × IsInFormat form (kind_of q.language listing) plain p)
       → HoldsOfGiven (keeps gives) old new layout (IsAnswerBy (λ k g r. g ≡ graph) q plain)
       → HoldsOfGiven gives old.sources new.sources layout (IsNamedBy form q l p)
   named_given plain graph n none told holds =
@@ -359,8 +421,8 @@ module _ {S : Type 0} (gives : S → ℕ → Result (List ℕ) ReadFault → S �
       let here = told listing laid fits in (
         plain,
         (
-          answer_all (λ k g r. g ≡ graph) (IsNamedOf form l q.language listing) q listing plain
-              (λ g same. subst (λ (k : Layout). IsNamedOf form l q.language listing k g plain) (sym laid) (subst (λ (h : Graph). IsNamedOf form l q.language listing layout h plain) (sym same) here.0)) is.0,
+          answer_all (λ k g r. g ≡ graph) (IsStrictOf form q l q.language listing) q listing plain
+              (λ g same. subst (λ (k : Layout). IsStrictOf form q l q.language listing k g plain) (sym laid) (subst (λ (h : Graph). IsStrictOf form q l q.language listing layout h plain) (sym same) here.0)) is.0,
           is.1,
         ),
         here.1,
@@ -372,7 +434,7 @@ module _ {S : Type 0} (gives : S → ℕ → Result (List ℕ) ReadFault → S �
       holds_inner gives old new layout (IsAnswerBy (λ k g r. ⊥) q plain) (IsNamedBy form q l p) holds
       (λ given listing gave laid agrees is. (
         plain,
-        (answer_all (λ k g r. ⊥) (IsNamedOf form l q.language listing) q listing plain (λ g none. absurd none) is.0, is.1),
+        (answer_all (λ k g r. ⊥) (IsStrictOf form q l q.language listing) q listing plain (λ g none. absurd none) is.0, is.1),
         format (kind_of q.language listing),
       ))
 
@@ -386,7 +448,7 @@ module _ (form : NamedForm) (q : Question) (l : Limits) (p : Printed) (given : L
   as_cut = record form { asked = ask.Cut }
 
   abbrev AsCut : Answer
-  AsCut = IsNamedAs ask.Cut as_cut l q.language listing
+  AsCut = Strict (open_strays_of q) (IsNamedAs ask.Cut as_cut l q.language listing)
 
   abbrev graph_told : {plain : Printed} → (t : IsTold AsCut q listing plain) → HasGraph q listing
   graph_told t = record { sources = t.sources; headers = t.headers; sources_are = t.sources_are; headers_are = t.headers_are; graph = t.graph; graph_is = t.graph_is }
@@ -433,7 +495,8 @@ module _ (form : NamedForm) (q : Question) (l : Limits) (p : Printed) (given : L
           let at : is.0.end.kind ≡ Answered = sym (ap (λ (r : Printed). r.end.kind) same) ∙ end in
           let t = told_of AsCut q listing is.0 (stated_yes is.0 at) is.1.0 in
           let u = unhindered_told layout t.graph.blockers (marks_refusal layout t.graph l.fixed l.costs)
-          (IsReportOf ask.Cut as_cut (has_costs l.costs) q.language listing layout t.graph (amounts_by layout t.graph l.kept l.fixed l.costs)) is.0 (stated_yes is.0 at) t.told in
+          (IsReportOf ask.Cut as_cut (has_costs l.costs) q.language listing layout t.graph (amounts_by layout t.graph l.kept l.fixed l.costs)) is.0 (stated_yes is.0 at)
+          (unless_told layout (open_strays_of q t.graph) (IsNamedAs ask.Cut as_cut l q.language listing layout t.graph) is.0 (stated_yes is.0 at) t.told) in
           keeps_out is.0 same t u.1.0 end u.0 u.1.1 u.1.2
 
       negative_of : p.end.kind ≡ Negative → NamedIsFixed as_cut q l listing p.text
@@ -442,7 +505,8 @@ module _ (form : NamedForm) (q : Question) (l : Limits) (p : Printed) (given : L
           let at : is.0.end.kind ≡ Negative = sym (ap (λ (r : Printed). r.end.kind) same) ∙ end in
           let t = told_of AsCut q listing is.0 (stated_no is.0 at) is.1.0 in
           let u = unhindered_told layout t.graph.blockers (marks_refusal layout t.graph l.fixed l.costs)
-          (IsReportOf ask.Cut as_cut (has_costs l.costs) q.language listing layout t.graph (amounts_by layout t.graph l.kept l.fixed l.costs)) is.0 (stated_no is.0 at) t.told in
+          (IsReportOf ask.Cut as_cut (has_costs l.costs) q.language listing layout t.graph (amounts_by layout t.graph l.kept l.fixed l.costs)) is.0 (stated_no is.0 at)
+          (unless_told layout (open_strays_of q t.graph) (IsNamedAs ask.Cut as_cut l q.language listing layout t.graph) is.0 (stated_no is.0 at) t.told) in
           is_fixed is.0 same t u.1.0 end u.1.1 u.1.2
 
 pub named_headline : (form : NamedForm) (q : Question) (l : Limits) (p : Printed) (given : List Given) (listing : Listing) → IsNamedBy form q l p given listing → NamedHeadline form q l p listing

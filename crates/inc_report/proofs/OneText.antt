@@ -12,8 +12,10 @@ use Rattle.inc_report.specs.GraphText.{IsGraphOf, IsGraph}
 use Rattle.inc_report.specs.NamedFiles.{headers_at, sources_at}
 use Rattle.inc_report.specs.Questions.{WithFiles, IsRefusalOf, OfGraph, WithGraph}
 use Rattle.inc_report.specs.Printed.{Printed}
+use Rattle.inc_report.specs.Strictness.{Strict, strays_of}
 use Rattle.inc_report.specs.WhoText.{who_printed, IsWhoOf, IsWho}
 use Rattle.inc_report.specs.WhyText.{why_printed, IsWhyOf, IsWhy}
+use Rattle.inc_report.proofs.StrictLemmas.{one_unless}
 
 one_why_of : (fails : Bool) (most : Option ℕ) (layout : Layout) (g : Graph) (p q : Printed) → IsWhyOf fails most layout g p → IsWhyOf fails most layout g q → p ≡ q
 one_why_of fails most layout g p q h k =
@@ -51,9 +53,9 @@ one_with_files layout q (Ok s) (Ok t) Then one a b h k = one s t a b h k
 pub one_why : (fails : Bool) (most : Option ℕ) (q : Question) (listing : Listing) (a b : Printed) → IsWhy fails most q listing a → IsWhy fails most q listing b → a ≡ b
 one_why fails most q listing a b h k =
     one_with_files (layout_of listing) q (sources_at (layout_of listing) q) (headers_at (layout_of listing) q.to)
-    (λ s t r. WithGraph q listing s t (IsWhyOf fails most (layout_of listing)) r)
-    (λ s t p2 q2 h2 k2. one_with_graph q listing s t (IsWhyOf fails most (layout_of listing))
-    (λ g p3 q3 h3 k3. one_why_of fails most (layout_of listing) g p3 q3 h3 k3) p2 q2 h2 k2)
+    (λ s t r. WithGraph q listing s t (Strict (strays_of q) (IsWhyOf fails most) (layout_of listing)) r)
+    (λ s t p2 q2 h2 k2. one_with_graph q listing s t (Strict (strays_of q) (IsWhyOf fails most) (layout_of listing))
+    (λ g p3 q3 h3 k3. one_unless (layout_of listing) (strays_of q g) (IsWhyOf fails most (layout_of listing) g) p3 q3 (one_why_of fails most (layout_of listing) g p3 q3) h3 k3) p2 q2 h2 k2)
     a b h k
 
 one_who_of : (with_chains fails : Bool) (most : Option ℕ) (layout : Layout) (g : Graph) (p q : Printed) → IsWhoOf with_chains fails most layout g p
@@ -68,14 +70,15 @@ pub one_who : (with_chains fails : Bool) (most : Option ℕ) (q : Question) (lis
     → IsWho with_chains fails most q listing b → a ≡ b
 one_who with_chains fails most q listing a b h k =
     one_with_files (layout_of listing) q (sources_at (layout_of listing) q) (headers_at (layout_of listing) q.to)
-    (λ s t r. WithGraph q listing s t (IsWhoOf with_chains fails most (layout_of listing)) r)
-    (λ s t p2 q2 h2 k2. one_with_graph q listing s t (IsWhoOf with_chains fails most (layout_of listing))
-    (λ g p3 q3 h3 k3. one_who_of with_chains fails most (layout_of listing) g p3 q3 h3 k3) p2 q2 h2 k2)
+    (λ s t r. WithGraph q listing s t (Strict (strays_of q) (IsWhoOf with_chains fails most) (layout_of listing)) r)
+    (λ s t p2 q2 h2 k2. one_with_graph q listing s t (Strict (strays_of q) (IsWhoOf with_chains fails most) (layout_of listing))
+    (λ g p3 q3 h3 k3. one_unless (layout_of listing) (strays_of q g) (IsWhoOf with_chains fails most (layout_of listing) g) p3 q3 (one_who_of with_chains fails most (layout_of listing) g p3 q3) h3 k3) p2 q2 h2 k2)
     a b h k
 
 pub one_edges : (q : Question) (listing : Listing) (a b : Printed) → IsGraph q listing a → IsGraph q listing b → a ≡ b
 one_edges q listing a b h k =
     one_with_files (layout_of listing) q (sources_at (layout_of listing) q) (headers_at (layout_of listing) q.to)
-    (λ s t r. WithGraph q listing s t (IsGraphOf (layout_of listing)) r)
-    (λ s t p2 q2 h2 k2. one_with_graph q listing s t (IsGraphOf (layout_of listing)) (λ g p3 q3 h3 k3. h3 ∙ sym k3) p2 q2 h2 k2)
+    (λ s t r. WithGraph q listing s t (Strict (strays_of q) IsGraphOf (layout_of listing)) r)
+    (λ s t p2 q2 h2 k2. one_with_graph q listing s t (Strict (strays_of q) IsGraphOf (layout_of listing))
+    (λ g p3 q3 h3 k3. one_unless (layout_of listing) (strays_of q g) (IsGraphOf (layout_of listing) g) p3 q3 (λ h4 k4. h4 ∙ sym k4) h3 k3) p2 q2 h2 k2)
     a b h k

@@ -1,6 +1,6 @@
 -- Where each include line of a near file leads to a near file, or begins with a name that no line of a near file defines, a preprocessing
 -- that begins near reads near files alone. A file is near by how it was found.
-use Rattle.std.proofs.Common.{◌≡◌, ◌≢◌, refl, sym, ◌∙◌, ℕ, zero, suc, Bool, true, false, cond, List, [], ◌∷◌, ◌++◌, Option, Some, None, Result, Ok, Err, IfOk, length, drop, map, nat_lt, ◌&&◌}
+use Rattle.std.proofs.Common.{◌≡◌, ◌≢◌, refl, sym, ◌∙◌, ℕ, zero, suc, ◌+◌, Bool, true, false, cond, List, [], ◌∷◌, ◌++◌, Option, Some, None, Result, Ok, Err, IfOk, length, drop, map, nat_lt, ◌&&◌}
 use Rattle.std.specs.List.{list_all}
 use Rattle.std.specs.Prelude.{IfSome, nat_le, option_map, codes, ok_or}
 use Rattle.std.proofs.lemmas.Result.{IfOk-at_ok}
@@ -15,7 +15,7 @@ use Rattle.inc_lookup.specs.declared.projects.DirectiveId.{DirectiveId}
 use Rattle.inc_lookup.specs.declared.projects.Form.{Form}
 use Rattle.inc_lookup.specs.declared.projects.Form.TheVariants as form
 use Rattle.inc_lookup.specs.declared.projects.Found.{Found}
-use Rattle.inc_lookup.specs.Projects.{Listing, found_place, layout_of, path_at}
+use Rattle.inc_lookup.specs.Projects.{Listing, bytes_at, found_place, layout_of, path_at}
 use Rattle.inc_macro.specs.Macros.{Table, define, no_macros, undef, with_words, is_spelled, pop_macro, push_macro}
 use Rattle.inc_macro.specs.Results.{◌>>=◌}
 use Rattle.inc_macro.proofs.UndefinedNames.{IsAbsent, define_absent, first_spelling, none_absent, pop_absent, push_absent, undef_absent}
@@ -33,13 +33,13 @@ use Rattle.inc_pp.specs.declared.settings.Missing.TheVariants as missing
 use Rattle.inc_pp.specs.Directives.{after_pragma, line_operands, names_once, changed, control_of, ends_call, released_for, with_table}
 use Rattle.inc_pp.specs.Files.{FileFault, tree_of}
 use Rattle.inc_pp.specs.Includes.{Header, after_found, found_from, header_of, is_done, is_import, not_found, wanted, led_to, entered, include_target, included}
-use Rattle.inc_pp.specs.Preprocessing.{Outcome, group_read, section_read, tree_read, file_read, reading, most_depth, named_settings, outcome_of, with_read, preprocessing}
+use Rattle.inc_pp.specs.Preprocessing.{Outcome, group_read, section_read, tree_read, counted_read, file_read, reading, most_depth, named_settings, outcome_of, with_read, preprocessing}
 use Rattle.inc_pp.specs.Pragmas.{Laid, is_stacking, laid, restacked, stacked, stacked_name}
 use Rattle.inc_pp.specs.OpenCalls.{called_name, first_line_in, open_behind, spellings}
 use Rattle.inc_pp.specs.Poison.{asked, asked_directive, is_poisonable, line_asked, names_poison, poison, poison_all, poisoned_by}
 use Rattle.inc_pp.specs.Runs.{closed_or, expanded, is_unclosed, line_of_run, marks_in, put_laid, released_at, run_expanded, run_given, run_opened, run_read, text_read, tokens_read, with_meter, with_waiting}
 use Rattle.inc_pp.specs.Sections.{condition_of, operands}
-use Rattle.inc_pp.specs.Settings.{Settings}
+use Rattle.inc_pp.specs.Settings.{Settings, is_too_much}
 use Rattle.inc_pp.specs.Entries.{FileToRead}
 use Rattle.inc_pp.specs.Tasks.{Task, State, Here, Halt, Deeper, File, caused, layout_in, place_of, start, source_at, begun, halting}
 use Rattle.inc_pp.proofs.NamedIncludes.{BeginsWith, no_header_by_name}
@@ -325,18 +325,18 @@ module _ (Near : Found → Type 0) (Absent : List ℕ → Type 0) where
   abbrev IsEntered : Option FileToRead × State → Type 0
   IsEntered r = IfSome r.0 (λ e. Near e.at) × IsNear r.1
 
-  entered_near : (f : File) (h : Here) (name : List ℕ) (r : Option Found × State) → IsTarget r → IsEntered (option_map (entered f h name) r.0, r.1)
-  entered_near f h name (None, s) k = k
-  entered_near f h name (Some at, s) k = k
+  entered_near : (f : File) (line : ℕ) (h : Here) (name : List ℕ) (r : Option Found × State) → IsTarget r → IsEntered (option_map (entered f line h name) r.0, r.1)
+  entered_near f line h name (None, s) k = k
+  entered_near f line h name (Some at, s) k = k
 
   target_near : (by : IncludeName) (target : Target) (f : File) (l : FileLine) (s : State) (h : Here) → Leads f (Include by target) l.tokens → IsNear s
       → Keeps IsEntered (include_target by target f l s h)
   target_near by (Quoted name) f l s h leads n =
       let header : Header = record { form = form.Quoted; name = name } in
-      keeps_then (led_near by f s (found_from f by header) leads n) (λ r k. keeps_ok (entered_near f h name r k))
+      keeps_then (led_near by f s (found_from f by header) leads n) (λ r k. keeps_ok (entered_near f (line_of_tokens l.tokens) h name r k))
   target_near by (Angled name) f l s h leads n =
       let header : Header = record { form = form.Angled; name = name } in
-      keeps_then (led_near by f s (found_from f by header) leads n) (λ r k. keeps_ok (entered_near f h name r k))
+      keeps_then (led_near by f s (found_from f by header) leads n) (λ r k. keeps_ok (entered_near f (line_of_tokens l.tokens) h name r k))
   target_near by (ByName name) f l s h leads n =
       let none : Keeps (λ r. ⊥) (header_of (ByName name) f l s h) = record { value = no_header_by_name name f l s h leads.1 (n.1 name leads.0).0 } in
       keeps_then none (λ r never. absurd never)
@@ -398,11 +398,18 @@ module _ (Near : Found → Type 0) (Absent : List ℕ → Type 0) where
   tree_near f (Ok g) s h d each n = holds_then (group_near f g s h d (each g refl) n) (λ r k. holds_then (waiting_near f (first_line_in r.1.waiting) r.0 r.1 k) (λ q i. holds_ok i))
   tree_near f (Err fault) s h d each n = holds_halting f fault.1 s (Err fault.0) n keeps_err
 
+  counted_near : (much : Bool) (f : File) (e : FileToRead) (r : Result Group FileFault) (s : State) (h : Here) → IsDeeperNear f.deeper
+      → ((g : Group) → r ≡ Ok g → Each (LineLeadsNear f.task (at_hand f)) (lines_of g)) → IsNear s → Holds IsNear IsNear (counted_read much f e r s h)
+  counted_near true f e r s h d each n = record { outcome = n }
+  counted_near false f e r s h d each n = tree_near f r s h d each n
+
   module _ (t : Task) (each : (at : Found) → Near at → (g : Group) → tree_of t.settings.language t.listing t.without at.file ≡ Ok g → Each (LineLeadsNear t at) (lines_of g)) where
     file_near : (deeper : Deeper) (e : FileToRead) (s : State) → IsDeeperNear deeper → Near e.at → IsNear s → Holds IsNear IsNear (file_read t deeper e s)
     file_near deeper e s d near n =
-        tree_near (record { task = t; index = e.at.file; next = e.at.next; deeper = deeper }) (tree_of t.settings.language t.listing t.without e.at.file)
-        (with_read e.at.file s) (start (layout_in t) e) d (each e.at near)
+        let size = length (bytes_at t.listing e.at.file) in
+        counted_near (is_too_much t.settings.most_read (s.bytes_read + size))
+        (record { task = t; index = e.at.file; next = e.at.next; deeper = deeper }) e (tree_of t.settings.language t.listing t.without e.at.file)
+        (with_read e.at.file size s) (start (layout_in t) e) d (each e.at near)
         (each_push IsNearRead s.reads e.at.file n.0 (e.at.next, near), n.1)
 
     reading_near : (left : ℕ) (e : FileToRead) (s : State) → Near e.at → IsNear s → Holds IsNear IsNear (reading left t e s)

@@ -13,6 +13,7 @@ use Rattle.inc_report.specs.Numbers.{count_text}
 use Rattle.inc_report.specs.PatchText.{patch_text}
 use Rattle.inc_report.specs.Printed.{Printed, answered_of}
 use Rattle.inc_report.specs.Questions.{IsAnswerBy}
+use Rattle.inc_report.specs.Strictness.{Strict, open_strays_of}
 use Rattle.inc_report.specs.Terms.{Question, Limits}
 
 -- a changed file: how many bytes it has and its path, then its bytes as they are, and LF
@@ -32,7 +33,7 @@ AreChangesOf text language listing layout g amounts p =
 
 -- the same of a question, and which files are read for that
 abbrev pub AreChangesBy : (List Change → List ℕ) → Question → Limits → Printed → List Given → Listing → Type 0
-AreChangesBy text q l p given listing = IsAnswerBy (WithAmounts l (AreChangesOf text q.language listing)) q p given listing
+AreChangesBy text q l p given listing = IsAnswerBy (Strict (open_strays_of q) (WithAmounts l (AreChangesOf text q.language listing))) q p given listing
 
 -- what `cut --blank` prints, and which files are read for that
 abbrev pub IsBlankBy : Question → Limits → Printed → List Given → Listing → Type 0

@@ -17,6 +17,7 @@ use Rattle.inc_report.specs.CutText.{WithAmounts}
 use Rattle.inc_report.specs.Printed.{Printed, end_of}
 use Rattle.inc_report.specs.Questions.{IsAnswerBy}
 use Rattle.inc_report.specs.Refusals.{Malformed, refusal}
+use Rattle.inc_report.specs.Strictness.{Strict, open_strays_of}
 use Rattle.inc_report.specs.declared.outcome.EndKind.{EndKind}
 use Rattle.inc_report.specs.declared.outcome.EndKind.TheVariants.{Answered, Negative}
 
@@ -57,4 +58,4 @@ IsCheckOf text layout g amounts p = IsMalformedPrinted text p ⊎ IsVerdictPrint
 
 -- what `check` prints, and which files are read for that
 abbrev pub IsCheckBy : Question → Limits → (text : List ℕ) → Printed → List Given → Listing → Type 0
-IsCheckBy q l text p given listing = IsAnswerBy (WithAmounts l (IsCheckOf text)) q p given listing
+IsCheckBy q l text p given listing = IsAnswerBy (Strict (open_strays_of q) (WithAmounts l (IsCheckOf text))) q p given listing

@@ -19,6 +19,7 @@ use Rattle.inc_report.specs.declared.limits.Hindrance.TheVariants as hindrance
 use Rattle.inc_report.specs.MarkTexts.{list_text}
 use Rattle.inc_report.specs.Printed.{Printed, answered_of, negative_of}
 use Rattle.inc_report.specs.Questions.{Answer, IsAnswerBy}
+use Rattle.inc_report.specs.Strictness.{Strict, open_strays_of}
 use Rattle.inc_report.specs.Refusals.{Refusal, Blocked, NoSuchDirective, NoSuchCost, CostTwice, refusal, refusal_for}
 
 ---- what hinders an answer about cuts
@@ -74,4 +75,4 @@ IsCutOf layout g amounts p = IsCutPrinted layout g amounts p ⊎ IsFixedPrinted 
 
 -- what `cut` prints, and which files are read for that
 abbrev pub IsCutBy : Question → Limits → Printed → List Given → Listing → Type 0
-IsCutBy q l p given listing = IsAnswerBy (WithAmounts l IsCutOf) q p given listing
+IsCutBy q l p given listing = IsAnswerBy (Strict (open_strays_of q) (WithAmounts l IsCutOf)) q p given listing

@@ -8,6 +8,7 @@ use Rattle.inc_check.specs.Texts.{line_text}
 use Rattle.inc_report.specs.Numbers.{count_text, directive_text}
 use Rattle.inc_report.specs.Printed.{Printed, answered}
 use Rattle.inc_report.specs.Questions.{Answer, IsAnswer, IsAnswerBy}
+use Rattle.inc_report.specs.Strictness.{Strict, strays_of}
 use Rattle.inc_report.specs.WhyText.{unresolved_text}
 
 -- the directive of an edge, and the path of the file that it leads to
@@ -24,8 +25,8 @@ IsGraphOf layout g p = p ≡ answered (graph_text layout g)
 
 -- what `graph` prints
 abbrev pub IsGraph : Question → Listing → Printed → Type 0
-IsGraph q listing p = IsAnswer IsGraphOf q listing p
+IsGraph q listing p = IsAnswer (Strict (strays_of q) IsGraphOf) q listing p
 
 -- and which files are read for that
 abbrev pub IsGraphBy : Question → Printed → List Given → Listing → Type 0
-IsGraphBy q p given listing = IsAnswerBy IsGraphOf q p given listing
+IsGraphBy q p given listing = IsAnswerBy (Strict (strays_of q) IsGraphOf) q p given listing

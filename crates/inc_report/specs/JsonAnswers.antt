@@ -9,6 +9,7 @@ use Rattle.inc_lookup.specs.Projects.{Layout, path_at}
 use Rattle.inc_directive.specs.LineKinds.{LineKind}
 use Rattle.inc_graph.specs.Cuts.{Counted, total_count}
 use Rattle.inc_graph.specs.IncludeGraph.{Edge, Graph}
+use Rattle.inc_graph.specs.MissingLists.{Missing, missing_at}
 use Rattle.inc_graph.specs.Reaching.{Reaching}
 use Rattle.inc_graph.specs.declared.graphs.Blocker.{Blocker}
 use Rattle.inc_report.specs.DirectiveNames.{kept_kind}
@@ -71,6 +72,10 @@ blockers_text a bs = list_of (map (blocker_text a) bs)
 
 abbrev pub blocked_text : About → List ℕ
 blocked_text a = blockers_text a a.graph.blockers
+
+-- the directive at a place of those whose header is not found
+abbrev pub stray_text : About → (place : ℕ) → List ℕ
+stray_text a place = let m : Missing = missing_at a.graph.missing place in place_text a (record { file = m.file; line = m.line }) None
 
 -- a name that is not found, with how many directives have it and the first of them
 abbrev pub named_form : Form → List ℕ

@@ -5,11 +5,12 @@ use Rattle.inc_directive.specs.LineKinds.{LineKind, Text}
 use Rattle.inc_lookup.specs.declared.projects.DirectiveId.{DirectiveId}
 use Rattle.inc_lookup.specs.Projects.{Layout, path_at}
 use Rattle.inc_graph.specs.Marks.{Mark}
+use Rattle.inc_graph.specs.MissingLists.{Missing}
 use Rattle.inc_graph.specs.declared.graphs.Blocker.{Blocker}
 use Rattle.inc_report.specs.JsonDirectives.{directive_text}
 use Rattle.inc_report.specs.JsonTexts.{list_of}
 use Rattle.inc_report.specs.Printed.{Printed, refused_for}
-use Rattle.inc_report.specs.Refusals.{Refusal, NoSuchSource, NoSuchHeader, BadFile, TooManyDirectives, Blocked, NoSuchDirective, NoSuchCost, CostTwice, Malformed, BadDefinition, TooLong}
+use Rattle.inc_report.specs.Refusals.{Refusal, NoSuchSource, NoSuchHeader, BadFile, TooManyDirectives, Blocked, NotFound, NoSuchDirective, NoSuchCost, CostTwice, Malformed, BadDefinition, TooLong}
 
 abbrev pub refusal_number : Refusal → ℕ
 refusal_number NoSuchSource = 1
@@ -17,6 +18,7 @@ refusal_number NoSuchHeader = 2
 refusal_number (BadFile at) = 3
 refusal_number TooManyDirectives = 4
 refusal_number (Blocked layout blockers) = 5
+refusal_number (NotFound layout ms) = 12
 refusal_number (NoSuchDirective mark) = 6
 refusal_number (Malformed line) = 7
 refusal_number (BadDefinition index fault) = 8
@@ -30,6 +32,7 @@ refusal_words NoSuchHeader = codes "no such header"
 refusal_words (BadFile at) = codes "bad file"
 refusal_words TooManyDirectives = codes "too many directives"
 refusal_words (Blocked layout blockers) = codes "blocked"
+refusal_words (NotFound layout ms) = codes "missing"
 refusal_words (NoSuchDirective mark) = codes "no such directive"
 refusal_words (Malformed line) = codes "malformed"
 refusal_words (BadDefinition index fault) = codes "bad definition"
@@ -52,6 +55,9 @@ mark_item m = directive_text Text m.line m.path None
 abbrev pub blocked_item : (kind : DirectiveId → LineKind) → Layout → Blocker → List ℕ
 blocked_item kind layout b = directive_text (kind (record { file = b.file; line = b.line })) b.line (path_at layout b.file) None
 
+abbrev pub stray_item : (kind : DirectiveId → LineKind) → Layout → Missing → List ℕ
+stray_item kind layout m = directive_text (kind (record { file = m.file; line = m.line })) m.line (path_at layout m.file) None
+
 -- the directive that it names so, if it names one
 abbrev pub mark_items : Refusal → List (List ℕ)
 mark_items r = option_map_or (λ m. mark_item m ∷ []) (refusal_mark r) []
@@ -59,6 +65,7 @@ mark_items r = option_map_or (λ m. mark_item m ∷ []) (refusal_mark r) []
 -- the directives that it names
 abbrev pub refused_items : (kind : DirectiveId → LineKind) → Refusal → List (List ℕ)
 refused_items kind (Blocked layout blockers) = map (blocked_item kind layout) blockers
+refused_items kind (NotFound layout ms) = map (stray_item kind layout) ms
 refused_items kind r = mark_items r
 
 -- with these directives

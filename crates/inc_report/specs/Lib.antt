@@ -48,6 +48,7 @@ pub mod ScanText
 pub mod Sending
 pub mod SourceEndings
 pub mod StopReasons
+pub mod Strictness
 pub mod Terms
 pub mod Told
 pub mod Views

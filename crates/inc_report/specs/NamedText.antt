@@ -22,6 +22,7 @@ use Rattle.inc_report.specs.Printed.{Printed, end_of, refused_for}
 use Rattle.inc_report.specs.Questions as questions
 use Rattle.inc_report.specs.Questions.{IsAnswerBy}
 use Rattle.inc_report.specs.Refusals.{Refusal, refusal_for}
+use Rattle.inc_report.specs.Strictness.{Strict, asked_strays_of}
 use Rattle.inc_report.specs.Terms.{Question, Limits}
 use Rattle.inc_report.specs.Told.{Answer, Chains, Sources, Edges, Removed, FixedChain, IsAnswerOf, end_kind, notes_of}
 use Rattle.inc_report.specs.WhoDocument.{who_document}
@@ -128,10 +129,14 @@ IsNamedAs asked form l language listing layout g p = IsReportOf asked form false
 abbrev pub IsNamedOf : NamedForm → Limits → Language → Listing → questions.Answer
 IsNamedOf form l language listing = IsNamedAs form.asked form l language listing
 
+-- or the refusal of directives whose header is not found
+abbrev pub IsStrictOf : NamedForm → Question → Limits → Language → Listing → questions.Answer
+IsStrictOf form q l language listing = Strict (asked_strays_of form.asked q) (IsNamedOf form l language listing)
+
 -- of a question, and which files are read for that
 abbrev pub IsNamedBy : NamedForm → Question → Limits → Printed → List Given → Listing → Type 0
 IsNamedBy form q l p given listing =
-    (plain : Printed) × IsAnswerBy (IsNamedOf form l q.language listing) q plain given listing × IsInFormat form (kind_of q.language listing) plain p
+    (plain : Printed) × IsAnswerBy (IsStrictOf form q l q.language listing) q plain given listing × IsInFormat form (kind_of q.language listing) plain p
 
 ---- by what is kept of the files
 
@@ -144,6 +149,12 @@ abbrev pub IsNamedKept : NamedForm → Limits → Subject → Printed → Type 0
 IsNamedKept form l s p =
     (plain : Printed) × OfKept s.files.now s.project.now (λ listing.
     IsNamedOf form l s.language listing s.project.now s.graph.now plain × IsInFormat form (kind_of s.language listing) plain p)
+
+-- the same of a question
+abbrev pub IsStrictKept : NamedForm → Question → Limits → Subject → Printed → Type 0
+IsStrictKept form q l s p =
+    (plain : Printed) × OfKept s.files.now s.project.now (λ listing.
+    IsStrictOf form q l s.language listing s.project.now s.graph.now plain × IsInFormat form (kind_of s.language listing) plain p)
 
 -- of what hinders a cut
 abbrev pub IsHinderedKept : Limits → Subject → Printed → Type 0

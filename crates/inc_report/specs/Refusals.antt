@@ -1,10 +1,11 @@
 -- Refusals, which are printed in place of an answer.
-use Rattle.std.specs.Prelude.{ℕ, List, ◌++◌, codes, decimal}
+use Rattle.std.specs.Prelude.{ℕ, List, ◌++◌, codes, decimal, map}
 use Rattle.inc_lookup.specs.Projects.{Layout}
 use Rattle.inc_graph.specs.declared.graphs.Blocker.{Blocker}
 use Rattle.inc_graph.specs.Marks.{Mark}
-use Rattle.inc_check.specs.Texts.{line_text}
-use Rattle.inc_report.specs.MarkTexts.{mark_text, blockers_text}
+use Rattle.inc_graph.specs.MissingLists.{Missing}
+use Rattle.inc_check.specs.Texts.{line_text, marks_text}
+use Rattle.inc_report.specs.MarkTexts.{mark_text, missing_mark, blockers_text}
 use Rattle.inc_report.specs.Numbers.{point_text}
 use Rattle.inc_report.specs.Printed.{Printed, refused, refused_for}
 
@@ -16,6 +17,8 @@ pub data Refusal : Type 0 where
   TooManyDirectives : Refusal
   -- by all of these, whose files are those of the layout
   Blocked : Layout → List Blocker → Refusal
+  -- by all of these, whose files are those of the layout
+  NotFound : Layout → List Missing → Refusal
   NoSuchDirective : Mark → Refusal
   NoSuchCost : Mark → Refusal
   CostTwice : Mark → Refusal
@@ -31,6 +34,7 @@ refusal_text NoSuchHeader = line_text (codes "refused 2 no such header")
 refusal_text (BadFile at) = line_text (codes "refused 3 bad file") ++ mark_text at
 refusal_text TooManyDirectives = line_text (codes "refused 4 too many directives")
 refusal_text (Blocked layout blockers) = line_text (codes "refused 5 blocked") ++ blockers_text layout blockers
+refusal_text (NotFound layout ms) = line_text (codes "refused 12 missing") ++ marks_text (map (missing_mark layout) ms)
 refusal_text (NoSuchDirective mark) = line_text (codes "refused 6 no such directive") ++ mark_text mark
 refusal_text (Malformed line) = line_text (codes "refused 7 malformed " ++ decimal line)
 refusal_text (BadDefinition index fault) = line_text (codes "refused 8 bad definition " ++ point_text (index, fault))

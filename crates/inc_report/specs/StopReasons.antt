@@ -65,6 +65,7 @@ cause_words cause.TooDeep = codes "includes nested more than 200 deep"
 cause_words cause.TooManyReads = codes "more than 100,000 files read"
 cause_words cause.BadPragma = codes "bad pragma"
 cause_words cause.Poisoned = codes "poisoned name"
+cause_words cause.TooMuchRead = codes "too many bytes read"
 
 -- the line on a stop
 abbrev pub stop_reason : Layout → Stop → List ℕ

@@ -24,6 +24,10 @@ pub record Question : Type 0 where
   -- for each file of the project the numbers of the include paths with which it is read as a source: 0 is the project's own, and 1 the first
   -- of the others. A file that has none, and one past the end, is read with each
   pub read_with : List (List ℕ)
+  -- includes that are not found are refused
+  pub is_strict : Bool
+  -- but those of headers whose names these globs fit
+  pub external : List (List ℕ)
 
 -- what limits a cut
 pub record Limits : Type 0 where

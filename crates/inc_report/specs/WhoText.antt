@@ -13,6 +13,7 @@ use Rattle.inc_report.specs.Numbers.{count_text, directive_text}
 use Rattle.inc_report.specs.MissingNotes.{unreached_notes}
 use Rattle.inc_report.specs.Printed.{Printed, end_of, reached_kind}
 use Rattle.inc_report.specs.Questions.{Answer, IsAnswer, IsAnswerBy}
+use Rattle.inc_report.specs.Strictness.{Strict, strays_of}
 use Rattle.inc_report.specs.WhyText.{ways_text}
 use Rattle.inc_report.specs.declared.outcome.EndKind.{EndKind}
 use Rattle.inc_report.specs.declared.outcome.EndKind.TheVariants.{Answered}
@@ -58,8 +59,8 @@ IsWhoOf with_chains fails most layout g p =
 
 -- what `who` prints
 abbrev pub IsWho : (with_chains fails : Bool) → (most : Option ℕ) → Question → Listing → Printed → Type 0
-IsWho with_chains fails most q listing p = IsAnswer (IsWhoOf with_chains fails most) q listing p
+IsWho with_chains fails most q listing p = IsAnswer (Strict (strays_of q) (IsWhoOf with_chains fails most)) q listing p
 
 -- and which files are read for that
 abbrev pub IsWhoBy : (with_chains fails : Bool) → (most : Option ℕ) → Question → Printed → List Given → Listing → Type 0
-IsWhoBy with_chains fails most q p given listing = IsAnswerBy (IsWhoOf with_chains fails most) q p given listing
+IsWhoBy with_chains fails most q p given listing = IsAnswerBy (Strict (strays_of q) (IsWhoOf with_chains fails most)) q p given listing

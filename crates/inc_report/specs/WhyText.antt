@@ -13,6 +13,7 @@ use Rattle.inc_report.specs.Numbers.{count_text}
 use Rattle.inc_report.specs.MissingNotes.{unreached_notes}
 use Rattle.inc_report.specs.Printed.{Printed, end_of, reached_kind}
 use Rattle.inc_report.specs.Questions.{Answer, IsAnswer, IsAnswerBy}
+use Rattle.inc_report.specs.Strictness.{Strict, strays_of}
 use Rattle.inc_report.specs.declared.outcome.EndKind.{EndKind}
 use Rattle.inc_report.specs.declared.outcome.EndKind.TheVariants.{Answered}
 
@@ -57,8 +58,8 @@ IsWhyOf fails most layout g p =
 
 -- what `why` prints
 abbrev pub IsWhy : (fails : Bool) → (most : Option ℕ) → Question → Listing → Printed → Type 0
-IsWhy fails most q listing p = IsAnswer (IsWhyOf fails most) q listing p
+IsWhy fails most q listing p = IsAnswer (Strict (strays_of q) (IsWhyOf fails most)) q listing p
 
 -- and which files are read for that
 abbrev pub IsWhyBy : (fails : Bool) → (most : Option ℕ) → Question → Printed → List Given → Listing → Type 0
-IsWhyBy fails most q p given listing = IsAnswerBy (IsWhyOf fails most) q p given listing
+IsWhyBy fails most q p given listing = IsAnswerBy (Strict (strays_of q) (IsWhyOf fails most)) q p given listing

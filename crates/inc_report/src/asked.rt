@@ -26,6 +26,11 @@ pub struct Question<'q> {
     /// For each file of the project the numbers of the include paths with which it is read as a source: 0 is the project's own, and 1 the
     /// first of `others`. A file that has none, and one past the end, is read with each; numbers past the last say nothing.
     pub read_with: &'q [Vec<usize>],
+    /// Whether the question is refused where an include is not found.
+    pub is_strict: bool,
+    /// Globs of the names of headers that are excepted from that, as they stand between the quotes or the brackets. One that is none
+    /// excepts nothing.
+    pub external: &'q [&'q [u8]],
 }
 
 impl<'q> Model for Question<'q> {
@@ -42,6 +47,8 @@ impl<'q> Model for Question<'q> {
       undefined = map (λ n. n.now) q.undefined.now;
       others = q.others.now;
       read_with = map (λ v. v.items) q.read_with.now;
+      is_strict = q.is_strict;
+      external = map (λ n. n.now) q.external.now;
     } };
 }
 

@@ -8,6 +8,7 @@ ghost use Rattle.inc_report.specs.CutText.{WithAmounts};
 ghost use Rattle.inc_report.specs.Headline.{CheckHeadline};
 ghost use Rattle.inc_report.specs.Questions.{FailsAt};
 ghost use Rattle.inc_report.specs.Sending.{Sends};
+ghost use Rattle.inc_report.specs.Strictness.{Strict, open_strays_of};
 ghost use Rattle.inc_report.specs.Writing.{Prints, Writes, unread_of};
 
 use crate::asked::{Limits, Question};
@@ -18,6 +19,7 @@ use crate::outcome::{End, EndKind, RunFault, noted};
 use crate::output::Output;
 use crate::questions::{find_graph, refuse_question};
 use crate::refusals::{Refusal, refuse};
+use crate::strictness::{open_strays_of, refuse_strays};
 use inc_check::{CheckFault, Reason, Verdict, check_source};
 use inc_graph::{Fixed, Graph};
 use inc_lookup::{Project, Sources};
@@ -92,9 +94,33 @@ fn judge<S: Sources, T: ByteSource, W: ByteSink>(
         (FailsAt S.gives sources.old sources.new project.now question.now)) }
 {
     match find_graph(alloc, project, sources, question) {
-        Ok(graph) => judge_graph(alloc, project, &graph, limits, certificate, out),
+        Ok(graph) => judge_strictly(alloc, project, question, &graph, limits, certificate, out),
         Err(cause) => refuse_question(alloc, project, question, cause, out),
     }
+}
+
+/// Sends the verdict of a graph on a certificate, or what hinders it, or the refusal of directives whose header is not found.
+fn judge_strictly<T: ByteSource, W: ByteSink>(
+    alloc: Global,
+    project: &Project<'_>,
+    question: &Question<'_>,
+    graph: &Graph,
+    limits: &Limits<'_>,
+    certificate: &mut T,
+    out: &mut Output<W>,
+) -> Result<End, RunFault>
+    requires files { graph.now.files ≡ length project.now.paths }
+    requires source { T.has_failed certificate.old ≡ false }
+    ensures sent { Prints (λ p. OfBytes (T.left certificate.old) (λ text. Strict (open_strays_of question.now)
+        (WithAmounts limits.now (IsCheckOf text)) project.now graph.now p)) out.old out.new result }
+    ensures certificate { IsErrOf result RunFault.CannotReadCertificate ↔ IsTrue (T.has_failed certificate.new) }
+    ensures read { IfErr result (λ f. unread_of f ≡ None) }
+{
+    let strays = open_strays_of(alloc, question, graph)?;
+    if strays.is_empty() {
+        return judge_graph(alloc, project, graph, limits, certificate, out);
+    }
+    refuse_strays(alloc, project, graph, &strays, out)
 }
 
 /// Sends the verdict of a graph on a certificate, or what hinders it.

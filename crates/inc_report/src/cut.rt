@@ -14,6 +14,7 @@ ghost use Rattle.inc_report.specs.MissingNotes.{empty_notes};
 ghost use Rattle.inc_report.specs.Printed.{Printed};
 ghost use Rattle.inc_report.specs.Questions.{FailsAt};
 ghost use Rattle.inc_report.specs.Sending.{Sends};
+ghost use Rattle.inc_report.specs.Strictness.{Strict, open_strays_of};
 ghost use Rattle.inc_report.specs.Writing.{Prints, SendsWhole, Writes, is_of_certificate, unread_of};
 
 use crate::asked::{Limits, Question};
@@ -24,6 +25,7 @@ use crate::missing_notes::{Notes, empty_notes};
 use crate::outcome::{End, EndKind, RunFault, noted};
 use crate::output::Output;
 use crate::questions::{find_graph, refuse_question};
+use crate::strictness::{open_strays_of, refuse_strays};
 use inc_cut::{CountedChains, CutAnswer, PhaseSearch, smallest_cut};
 use inc_graph::{Chain, EdgeId, Fixed, Graph};
 use inc_lookup::{Project, Sources};
@@ -80,9 +82,30 @@ fn separate<S: Sources, W: ByteSink>(
     ensures certificate { IfErr result (λ f. is_of_certificate f ≡ false) }
 {
     match find_graph(alloc, project, sources, question) {
-        Ok(graph) => separate_graph(alloc, project, &graph, limits, out),
+        Ok(graph) => separate_strictly(alloc, project, question, &graph, limits, out),
         Err(cause) => refuse_question(alloc, project, question, cause, out),
     }
+}
+
+/// Sends the smallest cut of a graph, or what hinders it, or the refusal of directives whose header is not found.
+fn separate_strictly<W: ByteSink>(
+    alloc: Global,
+    project: &Project<'_>,
+    question: &Question<'_>,
+    graph: &Graph,
+    limits: &Limits<'_>,
+    out: &mut Output<W>,
+) -> Result<End, RunFault>
+    requires { graph.now.files ≡ length project.now.paths }
+    ensures sent { Prints (Strict (open_strays_of question.now) (WithAmounts limits.now IsFitCutOf) project.now graph.now) out.old out.new result }
+    ensures read { IfErr result (λ f. unread_of f ≡ None) }
+    ensures certificate { IfErr result (λ f. is_of_certificate f ≡ false) }
+{
+    let strays = open_strays_of(alloc, question, graph)?;
+    if strays.is_empty() {
+        return separate_graph(alloc, project, graph, limits, out);
+    }
+    refuse_strays(alloc, project, graph, &strays, out)
 }
 
 /// Sends the smallest cut of a graph, or what hinders it.

@@ -9,6 +9,7 @@ ghost use Rattle.inc_report.specs.CutText.{WithAmounts};
 ghost use Rattle.inc_report.specs.KeptFiles.{AreAllKept, OfKept};
 ghost use Rattle.inc_report.specs.Questions.{FailsAt};
 ghost use Rattle.inc_report.specs.Sending.{Sends};
+ghost use Rattle.inc_report.specs.Strictness.{Strict, open_strays_of};
 ghost use Rattle.inc_report.specs.Writing.{Prints, Writes, is_of_certificate, unread_of};
 
 use crate::asked::{Limits, Question};
@@ -22,6 +23,7 @@ use crate::outcome::{End, EndKind, RunFault, noted};
 use crate::output::Output;
 use crate::patch::send_patch;
 use crate::questions::{find_graph, refuse_question};
+use crate::strictness::{open_strays_of, refuse_strays};
 use inc_cut::CutAnswer;
 use inc_graph::{Fixed, Graph};
 use inc_lookup::{Project, Sources};
@@ -149,19 +151,37 @@ fn separate<S: Sources, W: ByteSink>(
     match find_graph(alloc, project, kept, question) {
         Ok(graph) => {
             let files = &kept.files;
-            separate_graph(
-                alloc,
-                project,
-                &graph,
-                files,
-                question.language,
-                limits,
-                form,
-                out,
-            )
+            separate_strictly(alloc, project, question, &graph, files, limits, form, out)
         }
         Err(cause) => refuse_question(alloc, project, question, cause, out),
     }
+}
+
+/// Sends the changed files of the smallest cut of a graph, or what hinders it, or the refusal of directives whose header is not found.
+fn separate_strictly<W: ByteSink>(
+    alloc: Global,
+    project: &Project<'_>,
+    question: &Question<'_>,
+    graph: &Graph,
+    files: &KeptFiles,
+    limits: &Limits<'_>,
+    form: Form,
+    out: &mut Output<W>,
+) -> Result<End, RunFault>
+    requires files { graph.now.files ≡ length project.now.paths }
+    requires sound { IsSound graph.now }
+    requires kept { AreAllKept graph.now files.now }
+    ensures sent { Prints (λ p. OfKept files.now project.now (λ listing. Strict (open_strays_of question.now)
+        (WithAmounts limits.now (AreChangesOf (text_in form) question.now.language listing)) project.now graph.now p)) out.old out.new result }
+    ensures read { IfErr result (λ f. unread_of f ≡ None) }
+    ensures certificate { IfErr result (λ f. is_of_certificate f ≡ false) }
+{
+    let strays = open_strays_of(alloc, question, graph)?;
+    if strays.is_empty() {
+        let language = question.language;
+        return separate_graph(alloc, project, graph, files, language, limits, form, out);
+    }
+    refuse_strays(alloc, project, graph, &strays, out)
 }
 
 /// Sends the changed files of the smallest cut of a graph, or what hinders it.

@@ -8,6 +8,7 @@ ghost use Rattle.inc_report.specs.GraphText.{edge_text, graph_text, IsGraphOf, I
 ghost use Rattle.inc_report.specs.Numbers.{directive_text};
 ghost use Rattle.inc_report.specs.Questions.{FailsAt};
 ghost use Rattle.inc_report.specs.Sending.{Sends};
+ghost use Rattle.inc_report.specs.Strictness.{Strict, strays_of};
 ghost use Rattle.inc_report.specs.Writing.{Prints, Writes, is_of_certificate, unread_of};
 
 use crate::asked::Question;
@@ -15,6 +16,7 @@ use crate::lines::{send_count_line, send_directive, send_line};
 use crate::outcome::{End, EndKind, RunFault, plain};
 use crate::output::Output;
 use crate::questions::{find_graph, refuse_question};
+use crate::strictness::{refuse_strays, strays_of};
 use crate::why::send_unresolved;
 use inc_graph::{Edge, Graph};
 use inc_lookup::{Project, Sources};
@@ -62,9 +64,29 @@ fn list<S: Sources, W: ByteSink>(
     ensures certificate { IfErr result (λ f. is_of_certificate f ≡ false) }
 {
     match find_graph(alloc, project, sources, question) {
-        Ok(graph) => list_graph(project, &graph, out),
+        Ok(graph) => list_strictly(alloc, project, question, &graph, out),
         Err(cause) => refuse_question(alloc, project, question, cause, out),
     }
+}
+
+/// Sends the text of a graph, or the refusal of directives whose header is not found.
+fn list_strictly<W: ByteSink>(
+    alloc: Global,
+    project: &Project<'_>,
+    question: &Question<'_>,
+    graph: &Graph,
+    out: &mut Output<W>,
+) -> Result<End, RunFault>
+    requires files { graph.now.files ≡ length project.now.paths }
+    ensures sent { Prints (Strict (strays_of question.now) IsGraphOf project.now graph.now) out.old out.new result }
+    ensures read { IfErr result (λ f. unread_of f ≡ None) }
+    ensures certificate { IfErr result (λ f. is_of_certificate f ≡ false) }
+{
+    let strays = strays_of(alloc, question, graph)?;
+    if strays.is_empty() {
+        return list_graph(project, graph, out);
+    }
+    refuse_strays(alloc, project, graph, &strays, out)
 }
 
 /// Sends the text of a graph.

@@ -1,9 +1,10 @@
 //! Parts of the answers as texts of JSON: paths, directives, and lists of them.
 ghost use Rattle.std.specs.Prelude.{◌≡◌, ◌<◌, ◌++◌, None, codes, decimal, length, map, option_map, slice_get, IfOk, OnOk};
+ghost use Rattle.std.specs.List.{All};
 ghost use Rattle.inc_graph.specs.Views.{seen_edge};
 ghost use Rattle.inc_lookup.specs.Projects.{path_at};
 ghost use Rattle.inc_report.specs.Fitting.{counted_as};
-ghost use Rattle.inc_report.specs.JsonAnswers.{about_of, begun, blocked_text, blocker_text, blockers_text, chain_if, chains_text, counted_item, counted_text, edge_text, edges_text, file_item, file_member, files_text, links_text, missing_item, missing_text, named_form, names_text, numbered_text, place_text, puts, shortest_text, source_item, sources_text};
+ghost use Rattle.inc_report.specs.JsonAnswers.{about_of, begun, blocked_text, blocker_text, blockers_text, chain_if, chains_text, counted_item, counted_text, edge_text, edges_text, file_item, file_member, files_text, links_text, missing_item, missing_text, named_form, names_text, numbered_text, place_text, puts, shortest_text, source_item, sources_text, stray_text};
 ghost use Rattle.inc_report.specs.JsonDirectives.{directive_text};
 ghost use Rattle.inc_report.specs.JsonTexts.{bytes_member, comma_at, list_of, number_member};
 ghost use Rattle.inc_report.specs.Views.{AreWithin, seen_name, seen_names};
@@ -250,6 +251,35 @@ impl<'s> JsonText<'s> {
         let directive = DirectiveId {
             file: blocker.file,
             line: blocker.line,
+        };
+        self.put_place(directive, None)
+    }
+
+    /// Adds the directives at these places of those whose header is not found, as a list.
+    pub fn put_strays(&mut self, strays: &[usize]) -> Result<(), AllocError>
+        requires { All (λ i. i < length self.old.graph.missing) strays.now }
+        ensures { OnOk result (self.new ≡ puts self.old
+            (list_of (map (stray_text (about_of self.old)) strays.now))) }
+    {
+        self.put(b"[")?;
+        for place in 0..strays.len() {
+            self.put_comma(place)?;
+            let stray = strays[place];
+            self.put_stray(stray)?;
+        }
+        self.put(b"]")
+    }
+
+    /// Adds one of them.
+    fn put_stray(&mut self, place: usize) -> Result<(), AllocError>
+        requires { place < length self.old.graph.missing }
+        ensures { OnOk result (self.new ≡ puts self.old (stray_text (about_of self.old) place)) }
+    {
+        let graph = self.graph();
+        let missing = graph.missing().at(place);
+        let directive = DirectiveId {
+            file: missing.file,
+            line: missing.line,
         };
         self.put_place(directive, None)
     }

@@ -1,9 +1,11 @@
 //! Refusals as objects of JSON.
-ghost use Rattle.std.specs.Prelude.{◌≡◌, ◌++◌, ◌∷◌, [], option_map, IfOk, OnOk};
+ghost use Rattle.std.specs.Prelude.{◌≡◌, ◌<◌, ◌++◌, ◌∷◌, [], length, map, option_map, IfOk, OnOk};
+ghost use Rattle.std.specs.List.{All};
+ghost use Rattle.inc_graph.specs.MissingLists.{missing_at};
 ghost use Rattle.inc_report.specs.DirectiveNames.{kept_kind};
 ghost use Rattle.inc_report.specs.JsonRefusals.{mark_item, mark_items, refusal_json, refusal_mark, refusal_number, refusal_object, refusal_words};
 ghost use Rattle.inc_report.specs.JsonTexts.{list_of};
-ghost use Rattle.inc_report.specs.Refusals.{Blocked};
+ghost use Rattle.inc_report.specs.Refusals.{Blocked, NotFound};
 ghost use Rattle.inc_report.specs.Views.{seen_refusal};
 
 use crate::json_directives::put_directive;
@@ -112,6 +114,31 @@ pub(crate) fn blocked_json(
     json.put_number(5)?;
     json.put(b",\"text\":\"")?;
     json.put(b"blocked")?;
+    json.put(b"\"},\"status\":4}\n")?;
+    Ok(json.into_text())
+}
+
+/// The refusal by directives whose header is not found.
+pub(crate) fn strays_json(
+    alloc: Global,
+    subject: Subject<'_>,
+    command: &[u8],
+    strays: &[usize],
+) -> Result<Vec<u8>, AllocError>
+    requires { All (λ i. i < length subject.graph.now.missing) strays.now }
+    ensures { IfOk result (λ text. text.items ≡ refusal_json command.now
+        (kept_kind subject.entry.language subject.entry.files.now)
+        (NotFound subject.entry.project.now (map (missing_at subject.entry.graph.now.missing) strays.now))) }
+{
+    let mut json = JsonText::new(alloc, subject)?;
+    json.put(b"{\"command\":\"")?;
+    json.put(command)?;
+    json.put(b"\",\"format\":1,\"refused\":{\"directives\":")?;
+    json.put_strays(strays)?;
+    json.put(b",\"number\":")?;
+    json.put_number(12)?;
+    json.put(b",\"text\":\"")?;
+    json.put(b"missing")?;
     json.put(b"\"},\"status\":4}\n")?;
     Ok(json.into_text())
 }

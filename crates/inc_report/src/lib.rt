@@ -47,6 +47,7 @@ mod scan;
 mod scan_forms;
 mod source_endings;
 mod stop_reasons;
+mod strictness;
 mod subjects;
 mod who;
 mod who_document;

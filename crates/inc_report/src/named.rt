@@ -1,10 +1,11 @@
 //! Answers in which directives stand as they are written, each with its file and line.
-ghost use Rattle.std.specs.Prelude.{◌≡◌, ◌≢◌, ◌<◌, ◌≤◌, ℕ, List, [], None, false, length, replicate, IfOk, IfSome, IfErr};
+ghost use Rattle.std.specs.Prelude.{◌≡◌, ◌≢◌, ◌<◌, ◌≤◌, ℕ, List, [], None, false, length, map, replicate, IfOk, IfSome, IfErr};
 ghost use Rattle.std.specs.List.{All};
 ghost use Rattle.inc_lookup.specs.Given.{HoldsOfGiven};
 ghost use Rattle.inc_graph.specs.Chains.{AreChainsByLast, IsShortestOrNone};
 ghost use Rattle.inc_graph.specs.Cuts as cuts;
 ghost use Rattle.inc_graph.specs.IncludeGraph.{IsSound};
+ghost use Rattle.inc_graph.specs.MissingLists.{missing_at};
 ghost use Rattle.inc_graph.specs.Reaching.{Reaching};
 ghost use Rattle.inc_graph.specs.declared.fixing.FixedFault.TheVariants as fault;
 ghost use Rattle.inc_report.specs.BlockedReasons.{blocked_reasons};
@@ -15,10 +16,11 @@ ghost use Rattle.inc_report.specs.Documents.{AreGraphKept, document_text};
 ghost use Rattle.inc_report.specs.JsonAnswers.{about_subject, why_json};
 ghost use Rattle.inc_report.specs.JsonRefusals.{mark_items, refusal_json, refusal_object};
 ghost use Rattle.inc_report.specs.NamedHeadline.{NamedHeadline};
-ghost use Rattle.inc_report.specs.NamedText.{IsHinderedKept, IsInAnyFormat, IsNamedBy, IsNamedKept, IsReport, answer_lines, answer_text, asks_headers, command_name};
+ghost use Rattle.inc_report.specs.NamedText.{IsHinderedKept, IsInAnyFormat, IsNamedBy, IsNamedKept, IsReport, IsStrictKept, answer_lines, answer_text, asks_headers, command_name};
 ghost use Rattle.inc_report.specs.Printed.{Printed, refused_for};
 ghost use Rattle.inc_report.specs.Questions.{FailsAt, IsStopped, IsWithin, unread_by};
-ghost use Rattle.inc_report.specs.Refusals.{Blocked};
+ghost use Rattle.inc_report.specs.Refusals.{Blocked, NotFound};
+ghost use Rattle.inc_report.specs.Strictness.{asked_strays_of, stray_reasons};
 ghost use Rattle.inc_report.specs.Told.{Chains, Edges, FixedChain, Removed, Sources, chain_found, told_printed};
 ghost use Rattle.inc_report.specs.Views.{seen_refusal};
 ghost use Rattle.inc_report.specs.WhyText.{why_kind, why_notes};
@@ -32,7 +34,7 @@ use crate::documents::Document;
 use crate::dot_text::{chains_dot, cut_dot, fixed_dot, graph_dot};
 use crate::graph_document::graph_document;
 use crate::json_answers::{cut_json, fixed_json, graph_json, who_json, why_json};
-use crate::json_refusals::{blocked_json, refusal_json};
+use crate::json_refusals::{blocked_json, refusal_json, strays_json};
 use crate::kept_sources::KeptSources;
 use crate::limits::{Hindrance, amounts_of, refusal_of, refuse_hindrance};
 use crate::missing_notes::{Notes, empty_notes, unreached_notes};
@@ -40,12 +42,13 @@ use crate::outcome::{End, EndKind, RunFault, reached_kind};
 use crate::output::Output;
 use crate::questions::{NoGraph, find_graph, refusal_of_question, refuse_question};
 use crate::refusals::Refusal;
+use crate::strictness::{open_strays_of, refuse_strays, stray_reasons, strays_of};
 use crate::subjects::{Subject, Told};
 use crate::who::{kind_of, notes_of};
 use crate::who_document::who_document;
 use crate::why_document::{reached_document, unreached_document};
 use inc_cut::{CountedChains, CutAnswer};
-use inc_graph::{Cost, EdgeId, Fixed, ShortestChains, SourceChains};
+use inc_graph::{Cost, EdgeId, Fixed, Graph, ShortestChains, SourceChains};
 use inc_lookup::{Project, Sources};
 use inc_text::ByteSink;
 use std::alloc::{AllocError, Global};
@@ -178,7 +181,7 @@ fn answer<S: Sources, W: ByteSink>(
                 files,
                 language: question.language,
             };
-            answer_graph(alloc, subject, limits, form, out)
+            answer_strictly(alloc, subject, question, limits, form, out)
         }
         Err(cause) => refuse(alloc, project, question, cause, form, out),
     }
@@ -222,6 +225,72 @@ fn refusal_report(
         text: refusal_json(alloc, asked.name(), refusal)?,
         kind: EndKind::Refused,
         notes: reason,
+    })
+}
+
+/// Sends the answer of a graph, or the refusal of directives whose header is not found.
+fn answer_strictly<W: ByteSink>(
+    alloc: Global,
+    subject: Subject<'_>,
+    question: &Question<'_>,
+    limits: &Limits<'_>,
+    form: NamedForm,
+    out: &mut Output<W>,
+) -> Result<End, RunFault>
+    requires files { subject.graph.now.files ≡ length subject.project.now.paths }
+    requires sound { IsSound subject.graph.now }
+    requires kept { AreGraphKept subject.graph.now subject.files.now }
+    ensures sent { Prints (IsStrictKept form question.now limits.now subject.entry) out.old out.new result }
+    ensures read { IfErr result (λ f. unread_of f ≡ None) }
+    ensures certificate { IfErr result (λ f. is_of_certificate f ≡ false) }
+{
+    let strays = asked_strays_of(alloc, form.asked, question, subject.graph)?;
+    if strays.is_empty() {
+        return answer_graph(alloc, subject, limits, form, out);
+    }
+    match form.format {
+        Format::Gcc | Format::Dot => {
+            refuse_strays(alloc, subject.project, subject.graph, &strays, out)
+        }
+        Format::Json => Ok(strays_report(alloc, subject, &strays, form.asked)?.send(out)),
+    }
+}
+
+/// The directives of a graph that refuse the answer to what is asked, by their places among those whose header is not found.
+fn asked_strays_of(
+    alloc: Global,
+    asked: Asked,
+    question: &Question<'_>,
+    graph: &Graph,
+) -> Result<Vec<usize>, RunFault>
+    ensures strays { IfOk result (λ places. map (missing_at graph.now.missing) places.items ≡ asked_strays_of asked question.now graph.now) }
+    ensures within { IfOk result (λ places. All (λ i. i < length graph.now.missing) places.items) }
+    ensures fault { IfErr result (λ f. f ≡ RunFault.NoMemory) }
+{
+    match asked {
+        Asked::Cut => open_strays_of(alloc, question, graph),
+        _ => strays_of(alloc, question, graph),
+    }
+}
+
+/// The refusal by these directives, as an object of JSON.
+fn strays_report(
+    alloc: Global,
+    subject: Subject<'_>,
+    strays: &[usize],
+    asked: Asked,
+) -> Result<Told, AllocError>
+    requires files { subject.graph.now.files ≡ length subject.project.now.paths }
+    requires within { All (λ i. i < length subject.graph.now.missing) strays.now }
+    ensures { IfOk result (λ report. told_printed report
+        ≡ refused_for (stray_reasons subject.entry.project.now (map (missing_at subject.entry.graph.now.missing) strays.now))
+        (refusal_json (command_name asked) (kept_kind subject.entry.language subject.entry.files.now)
+        (NotFound subject.entry.project.now (map (missing_at subject.entry.graph.now.missing) strays.now)))) }
+{
+    Ok(Told {
+        text: strays_json(alloc, subject, asked.name(), strays)?,
+        kind: EndKind::Refused,
+        notes: stray_reasons(alloc, subject.project, subject.graph, strays)?,
     })
 }
 

@@ -28,6 +28,7 @@ pub(crate) fn cause_numbers(cause: Cause) -> (u64, u64)
         Cause::TooManyReads => (13, 0),
         Cause::BadPragma => (14, 0),
         Cause::Poisoned => (15, 0),
+        Cause::TooMuchRead => (17, 0),
     }
 }
 

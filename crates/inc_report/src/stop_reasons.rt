@@ -55,6 +55,7 @@ fn cause_words(cause: Cause) -> &'static [u8]
         Cause::TooManyReads => b"more than 100,000 files read",
         Cause::BadPragma => b"bad pragma",
         Cause::Poisoned => b"poisoned name",
+        Cause::TooMuchRead => b"too many bytes read",
     }
 }
 

@@ -5,6 +5,7 @@ ghost use Rattle.inc_lookup.specs.Given.{HoldsOfGiven};
 ghost use Rattle.inc_graph.specs.Reaching.{Reaching};
 ghost use Rattle.inc_report.specs.Questions.{FailsAt};
 ghost use Rattle.inc_report.specs.Sending.{Sends};
+ghost use Rattle.inc_report.specs.Strictness.{Strict, strays_of};
 ghost use Rattle.inc_report.specs.WhoText.{chain_if, reaching_text, sources_text, who_kind, who_notes, IsWhoOf, IsWhoBy};
 ghost use Rattle.inc_report.specs.Writing.{Prints, Writes, is_of_certificate, unread_of};
 
@@ -16,6 +17,7 @@ use crate::missing_notes::{Notes, unreached_notes};
 use crate::outcome::{End, EndKind, RunFault, noted, reached_kind};
 use crate::output::Output;
 use crate::questions::{find_graph, refuse_question};
+use crate::strictness::{refuse_strays, strays_of};
 use crate::why::send_ways;
 use inc_graph::{Graph, ShortestChains, SourceChains};
 use inc_lookup::{Project, Sources};
@@ -79,9 +81,41 @@ fn tell<S: Sources, W: ByteSink>(
     ensures certificate { IfErr result (λ f. is_of_certificate f ≡ false) }
 {
     match find_graph(alloc, project, sources, question) {
-        Ok(graph) => tell_graph(alloc, project, &graph, with_chains, fails, most, out),
+        Ok(graph) => tell_strictly(
+            alloc,
+            project,
+            question,
+            &graph,
+            with_chains,
+            fails,
+            most,
+            out,
+        ),
         Err(cause) => refuse_question(alloc, project, question, cause, out),
     }
+}
+
+/// Sends the text of a graph, or the refusal of directives whose header is not found.
+fn tell_strictly<W: ByteSink>(
+    alloc: Global,
+    project: &Project<'_>,
+    question: &Question<'_>,
+    graph: &Graph,
+    with_chains: bool,
+    fails: bool,
+    most: Option<usize>,
+    out: &mut Output<W>,
+) -> Result<End, RunFault>
+    requires { graph.now.files ≡ length project.now.paths }
+    ensures sent { Prints (Strict (strays_of question.now) (IsWhoOf with_chains fails most) project.now graph.now) out.old out.new result }
+    ensures read { IfErr result (λ f. unread_of f ≡ None) }
+    ensures certificate { IfErr result (λ f. is_of_certificate f ≡ false) }
+{
+    let strays = strays_of(alloc, question, graph)?;
+    if strays.is_empty() {
+        return tell_graph(alloc, project, graph, with_chains, fails, most, out);
+    }
+    refuse_strays(alloc, project, graph, &strays, out)
 }
 
 /// Sends the text of a graph.

@@ -8,6 +8,7 @@ ghost use Rattle.inc_check.specs.Certificates.{marks_of};
 ghost use Rattle.inc_report.specs.MarkTexts.{missing_mark, list_text, chains_text};
 ghost use Rattle.inc_report.specs.Questions.{FailsAt};
 ghost use Rattle.inc_report.specs.Sending.{Sends};
+ghost use Rattle.inc_report.specs.Strictness.{Strict, strays_of};
 ghost use Rattle.inc_report.specs.WhyText.{unresolved_text, ways_text, why_text, IsWhyOf, IsWhyBy};
 ghost use Rattle.inc_report.specs.Writing.{Prints, Writes, is_of_certificate, unread_of};
 
@@ -19,6 +20,7 @@ use crate::missing_notes::unreached_notes;
 use crate::outcome::{End, EndKind, RunFault, noted, plain, reached_kind};
 use crate::output::Output;
 use crate::questions::{find_graph, refuse_question};
+use crate::strictness::{refuse_strays, strays_of};
 use inc_graph::{Graph, MissingList, ShortestChains};
 use inc_lookup::{Project, Sources};
 use inc_text::ByteSink;
@@ -70,9 +72,31 @@ fn explain<S: Sources, W: ByteSink>(
     ensures certificate { IfErr result (λ f. is_of_certificate f ≡ false) }
 {
     match find_graph(alloc, project, sources, question) {
-        Ok(graph) => explain_graph(alloc, project, &graph, fails, most, out),
+        Ok(graph) => explain_strictly(alloc, project, question, &graph, fails, most, out),
         Err(cause) => refuse_question(alloc, project, question, cause, out),
     }
+}
+
+/// Sends the text of a graph, or the refusal of directives whose header is not found.
+fn explain_strictly<W: ByteSink>(
+    alloc: Global,
+    project: &Project<'_>,
+    question: &Question<'_>,
+    graph: &Graph,
+    fails: bool,
+    most: Option<usize>,
+    out: &mut Output<W>,
+) -> Result<End, RunFault>
+    requires { graph.now.files ≡ length project.now.paths }
+    ensures sent { Prints (Strict (strays_of question.now) (IsWhyOf fails most) project.now graph.now) out.old out.new result }
+    ensures read { IfErr result (λ f. unread_of f ≡ None) }
+    ensures certificate { IfErr result (λ f. is_of_certificate f ≡ false) }
+{
+    let strays = strays_of(alloc, question, graph)?;
+    if strays.is_empty() {
+        return explain_graph(alloc, project, graph, fails, most, out);
+    }
+    refuse_strays(alloc, project, graph, &strays, out)
 }
 
 /// Sends the text of a graph.

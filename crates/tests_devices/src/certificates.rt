@@ -45,6 +45,8 @@ fn checked(alloc: Global, parts: Parts<'_>) -> Result<(Result<EndKind, RunFault>
         undefined: &[],
         others: &[],
         read_with: &[],
+        is_strict: false,
+        external: &[],
     };
     let limits = Limits {
         fixed: &[],

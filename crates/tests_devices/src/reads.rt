@@ -88,6 +88,8 @@ fn asked(
         undefined: &[],
         others: &[],
         read_with: &[],
+        is_strict: false,
+        external: &[],
     };
     let out = Writing::new(&mut sink);
     let (outcome, _) = run_why(alloc, &project, &mut sources, &question, false, None, out);

@@ -102,6 +102,8 @@ fn answers(alloc: Global, row: &Row) -> Result<[Vec<u8>; 3], Fail> {
         undefined: &[],
         others: &[],
         read_with: &[],
+        is_strict: false,
+        external: &[],
     };
     let limits = Limits {
         fixed: &[],

@@ -116,6 +116,8 @@ fn check_why(rt: &impl Abort, alloc: Global, project: &Project<'_>, files: &mut 
         undefined: &[],
         others: &[],
         read_with: &[],
+        is_strict: false,
+        external: &[],
     };
     for room in 0..want.text.len() {
         let mut sink = Sink::new(alloc, room, 7);
@@ -147,6 +149,8 @@ fn check_blank(rt: &impl Abort, alloc: Global, project: &Project<'_>, files: Hel
         undefined: &[],
         others: &[],
         read_with: &[],
+        is_strict: false,
+        external: &[],
     };
     let limits = Limits {
         fixed: &[],

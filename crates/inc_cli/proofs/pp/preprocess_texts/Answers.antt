@@ -2,12 +2,12 @@ use Rattle.std.proofs.Common.{◌≡◌, ◌≢◌, ◌++◌, ℕ, List, map, Ok
 use Rattle.std.specs.Io.KnownBytes.{Keeps}
 use Rattle.inc_args.specs.Views.{seen_pp}
 use Rattle.inc_lookup.specs.Projects.{Layout}
-use Rattle.inc_pp.specs.Settings.{found_in_settings, marked_settings, usual_settings}
+use Rattle.inc_pp.specs.Settings.{found_in_settings, limited_settings, marked_settings, usual_settings}
 use Rattle.inc_report.specs.declared.outcome.End.{End}
 use Rattle.inc_report.specs.declared.outcome.RunFault.{RunFault}
 use Rattle.inc_inputs.specs.Inputs.{Gives, Puts}
 use Rattle.inc_cli.specs.Outputs.{Answer, Output, ended}
-use Rattle.inc_cli.specs.Preprocessings.{IsPreprocessed, PpAsked, PrintsEach, all_words, missing_of, searched, writes_beside}
+use Rattle.inc_cli.specs.Preprocessings.{IsPreprocessed, PpAsked, PrintsEach, all_words, bound_of, missing_of, searched, writes_beside}
 use Rattle.inc_inputs.specs.Reports.{Report, out_of_memory, report_of}
 use Rattle.inc_build.specs.declared.compiler_words.Kind.{Kind}
 use Rattle.inc_inputs.specs.ProjectLists.{paths_in}
@@ -31,7 +31,8 @@ asked_for language p macros notes t layout = record {
   question = record {
     sources = p.sources;
     words = all_words language p macros t;
-    settings = found_in_settings (searched p t).dirs (marked_settings p.has_markers (usual_settings language (missing_of p.is_missing_empty)));
+    settings = found_in_settings (searched p t).dirs
+        (limited_settings (bound_of p.most_read) (marked_settings p.has_markers (usual_settings language (missing_of p.is_missing_empty))));
     without = t.without;
     has_rules = is_some p.deps;
     has_endings = is_some p.status;

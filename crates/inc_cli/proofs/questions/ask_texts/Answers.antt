@@ -51,7 +51,7 @@ returns g c known not =
     let e : listed_layout o.paths o.path ≡ Ok layout = search rules in
     let out = output_of (g.O.ByteSink.written c.args.out) (g.O.ByteSink.written c.ask_listed.result.1) (g.O.ByteSink.has_failed c.ask_listed.result.1) in
     let P = IsAnswered g.I.Inputs.gives (IsKnown known g.I.Inputs.gives (record { opens = g.I.Inputs.opens; left = g.I.Stream.ByteSource.left }) command) command in
-    let same = opened_made q t _ costs _ _ c.in-Ok.ensures.paths c.in-Ok.ensures.undefined c.in-Ok.ensures.path in
+    let same = opened_made q t _ costs _ _ _ _ c.in-Ok.ensures.paths c.in-Ok.ensures.undefined c.in-Ok.ensures.external c.in-Ok.ensures.strict c.in-Ok.ensures.path in
     run_judged (AreCosts (unwrap_or l.costs []) t.costs) (with_costs language command q l a t) _ _ _ _ costs c.in-Ok.ensures.costs
     (run_came (listed_layout o.paths o.path) (asked_listed language command q l a t.without t.fixed o) _ _ _ _ layout e
     (subst (λ k. IsRun (asked_listed language command q l a t.without t.fixed k layout) P c.args.inputs out (seen_end c.ask_listed.result.0)) same (c.ask_listed.ensures known not)))

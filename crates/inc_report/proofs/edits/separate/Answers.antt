@@ -4,12 +4,13 @@ use Rattle.inc_report.specs.ChangeForms.{text_in}
 use Rattle.inc_report.specs.CutText.{WithAmounts}
 use Rattle.inc_report.specs.KeptFiles.{OfKept}
 use Rattle.inc_report.specs.Printed.{Printed, answered}
+use Rattle.inc_report.specs.Strictness.{Strict, open_strays_of}
 use Rattle.inc_report.proofs.BlankLemmas.{all_kept, of_kept, of_no_graph, fails_inner, kept_headline, refused_headline}
 use Rattle.inc_report.proofs.WritingLemmas.{prints_all}
 use Rattle.inc_report.proofs.edits.separate.Goals as goal
 
-pub separate_graph-requires-clause-kept : goal.separate_graph-requires-clause-kept
-separate_graph-requires-clause-kept g c =
+pub separate_strictly-requires-clause-kept : goal.separate_strictly-requires-clause-kept
+separate_strictly-requires-clause-kept g c =
     all_kept g.S.Sources.gives c.args.kept.now c.find_graph.new.sources c.args.project.now c.args.question.now c.in-Ok.graph c.in-Ok.ensures.known
     (length c.args.project.now.paths) c.requires refl (c.in-Ok.ensures.graph (answered []))
 
@@ -18,10 +19,10 @@ returns-in-Ok-clause-sent g c =
     let layout = c.args.project.now in
     let q = c.args.question.now in
     let kept = c.find_graph.new.sources in
-    prints_all (λ (p : Printed). OfKept kept.files layout (λ listing. WithAmounts c.args.limits.now (AreChangesOf (text_in c.args.form) q.language listing) layout c.in-Ok.graph p)) _ _ _ c.separate_graph.result
-    (λ p is. of_kept g.S.Sources.gives c.args.kept.now kept layout q (λ listing. WithAmounts c.args.limits.now (AreChangesOf (text_in c.args.form) q.language listing)) p c.in-Ok.graph
+    prints_all (λ (p : Printed). OfKept kept.files layout (λ listing. Strict (open_strays_of q) (WithAmounts c.args.limits.now (AreChangesOf (text_in c.args.form) q.language listing)) layout c.in-Ok.graph p)) _ _ _ c.separate_strictly.result
+    (λ p is. of_kept g.S.Sources.gives c.args.kept.now kept layout q (λ listing. Strict (open_strays_of q) (WithAmounts c.args.limits.now (AreChangesOf (text_in c.args.form) q.language listing))) p c.in-Ok.graph
     (length layout.paths) c.requires is (c.in-Ok.ensures.graph p))
-    (rw (← c.question.view_is) c.separate_graph.ensures.sent)
+    c.separate_strictly.ensures.sent
 
 pub returns-in-Ok-clause-headline : goal.returns-in-Ok-clause-headline
 returns-in-Ok-clause-headline g c =
@@ -29,15 +30,15 @@ returns-in-Ok-clause-headline g c =
     let q = c.args.question.now in
     let l = c.args.limits.now in
     let kept = c.find_graph.new.sources in
-    prints_all (λ (p : Printed). OfKept kept.files layout (λ listing. WithAmounts l (AreChangesOf (text_in c.args.form) q.language listing) layout c.in-Ok.graph p)) _ _ _ c.separate_graph.result
+    prints_all (λ (p : Printed). OfKept kept.files layout (λ listing. Strict (open_strays_of q) (WithAmounts l (AreChangesOf (text_in c.args.form) q.language listing)) layout c.in-Ok.graph p)) _ _ _ c.separate_strictly.result
     (λ p is. kept_headline g.S.Sources.gives c.args.kept.now kept layout (text_in c.args.form) q l p c.in-Ok.graph (length layout.paths) c.requires c.in-Ok.ensures.known is (c.in-Ok.ensures.graph p))
-    (rw (← c.question.view_is) c.separate_graph.ensures.sent)
+    c.separate_strictly.ensures.sent
 
 pub returns-in-Err-clause-sent : goal.returns-in-Err-clause-sent
 returns-in-Err-clause-sent g c =
     let q = c.args.question.now in
     prints_all _ _ _ _ c.refuse_question.result
-    (λ p is. of_no_graph g.S.Sources.gives c.args.kept.now c.find_graph.new.sources c.args.project.now q (λ listing. WithAmounts c.args.limits.now (AreChangesOf (text_in c.args.form) q.language listing)) p
+    (λ p is. of_no_graph g.S.Sources.gives c.args.kept.now c.find_graph.new.sources c.args.project.now q (λ listing. Strict (open_strays_of q) (WithAmounts c.args.limits.now (AreChangesOf (text_in c.args.form) q.language listing))) p
     (c.in-Err.ensures.stopped p is))
     c.refuse_question.ensures.sent
 

@@ -1,15 +1,18 @@
-use Rattle.std.proofs.Common.{[], length, refl}
+use Rattle.std.proofs.Common.{[], ap, length, refl, subst}
+use Rattle.inc_text.specs.declared.languages.Language.{Language}
 use Rattle.inc_report.specs.DirectiveNames.{kind_of}
 use Rattle.inc_report.specs.KeptFiles.{OfKept}
-use Rattle.inc_report.specs.NamedText.{IsInFormat, IsNamedOf}
+use Rattle.inc_report.specs.NamedText.{IsInFormat, IsStrictOf}
 use Rattle.inc_report.specs.Printed.{Printed, answered}
+use Rattle.inc_report.specs.Terms.{Question}
+use Rattle.inc_report.specs.Writing.{Prints}
 use Rattle.inc_report.proofs.BlankLemmas.{fails_inner}
 use Rattle.inc_report.proofs.NamedLemmas.{graph_kept, named_given, named_refused}
 use Rattle.inc_report.proofs.WritingLemmas.{prints_all}
 use Rattle.inc_report.proofs.named.answer.Goals as goal
 
-pub answer_graph-requires-clause-kept : goal.answer_graph-requires-clause-kept
-answer_graph-requires-clause-kept g c =
+pub answer_strictly-requires-clause-kept : goal.answer_strictly-requires-clause-kept
+answer_strictly-requires-clause-kept g c =
     graph_kept g.S.Sources.gives c.args.kept.now c.find_graph.new.sources c.args.project.now c.args.question.now c.in-Ok.graph c.in-Ok.ensures.known
     (length c.args.project.now.paths) c.requires refl (c.in-Ok.ensures.graph (answered []))
 
@@ -18,11 +21,13 @@ returns-in-Ok-clause-sent g c =
     let q = c.args.question.now in
     prints_all
     (λ (p : Printed). (plain : Printed) × OfKept c.find_graph.new.sources.files c.args.project.now (λ listing.
-    IsNamedOf c.args.form c.args.limits.now q.language listing c.args.project.now c.in-Ok.graph plain × IsInFormat c.args.form (kind_of q.language listing) plain p))
-    _ _ _ c.answer_graph.result
+    IsStrictOf c.args.form q c.args.limits.now q.language listing c.args.project.now c.in-Ok.graph plain × IsInFormat c.args.form (kind_of q.language listing) plain p))
+    _ _ _ c.answer_strictly.result
     (λ p is. named_given g.S.Sources.gives c.args.kept.now c.find_graph.new.sources c.args.project.now c.args.form c.args.question.now c.args.limits.now p is.0 c.in-Ok.graph
     (length c.args.project.now.paths) c.requires is.1 (c.in-Ok.ensures.graph is.0))
-    (rw (← c.question.view_is) c.answer_graph.ensures.sent)
+    (subst (λ (language : Language). Prints (λ (p : Printed). (plain : Printed) × OfKept c.find_graph.new.sources.files c.args.project.now (λ listing.
+    IsStrictOf c.args.form q c.args.limits.now language listing c.args.project.now c.in-Ok.graph plain × IsInFormat c.args.form (kind_of language listing) plain p))
+    c.args.out.now c.answer_strictly.new.out c.answer_strictly.result) (ap (λ (x : Question). x.language) c.question.view_is) c.answer_strictly.ensures.sent)
 
 pub returns-in-Err-clause-sent : goal.returns-in-Err-clause-sent
 returns-in-Err-clause-sent g c =

@@ -15,8 +15,8 @@ returns-in_ok-entry-in-Include-clause-done c f l is at =
     c.in-Include.by (seen_target c.in-Include.target) kind_is
     c.in_ok-header-in-Include.header c.header.new.self.budget (state_of c.header.new.self) c.in_ok-there-in-Include.there
     c.in_ok-header-in-Include.ensures.kept (c.in_ok-header-in-Include.ensures.done l at) c.in_ok-there-in-Include.ensures.found
-    (state_of c.led_to.new.self) c.in_ok-found-in-Include.found c.in_ok-entry-in-Include.entry c.in_ok-found-in-Include.ensures.done.0
-    c.in_ok-found-in-Include.ensures.done.1 c.in_ok-entry-in-Include.ensures
+    (state_of c.led_to.new.self) c.in_ok-found-in-Include.found c.first_line.result c.in_ok-entry-in-Include.entry c.in_ok-found-in-Include.ensures.done.0
+    c.in_ok-found-in-Include.ensures.done.1 (line-at c.args.lines.now c.args.i l c.first_line.result at c.first_line.ensures) c.in_ok-entry-in-Include.ensures
 
 pub returns-in_err-header-in-Include-clause-stop : goal.returns-in_err-header-in-Include-clause-stop
 returns-in_err-header-in-Include-clause-stop c =
