@@ -6,7 +6,7 @@ _incut() {
     done
     case $prev in
         -I | --root | --iquote | --isystem | --idirafter) mapfile -t COMPREPLY < <(compgen -d -- "$cur") && return ;;
-        -D | --drop | --external | --keep | --only | --from | --to | --most-read) return ;;
+        -D | --drop | --external | --keep | --only | --from | --to | --most-read | --most-output) return ;;
         --files | --without | --fixed | --costs | --defines | --compiler | --deps | --status) mapfile -t COMPREPLY < <(compgen -f -- "$cur") && return ;;
     esac
     options="--extended --gnu --help"
@@ -19,7 +19,7 @@ _incut() {
         who) options+=" -p --files --root --follow --null -0 -I --iquote --isystem --idirafter --without --drop --strict --external --quiet -q --fail-if-reached --undefined --from --to --chains --format --max" ;;
         cut) options+=" -p --files --root --follow --null -0 -I --iquote --isystem --idirafter --without --drop --strict --external --undefined --from --to --fixed --keep --only --costs --quiet -q --blank --patch --format --all --max" ;;
         check) options+=" -p --files --root --follow --null -0 -I --iquote --isystem --idirafter --without --drop --strict --external --undefined --from --to --fixed --keep --only --costs --quiet -q" ;;
-        pp) options+=" -p --files --root --follow --null -0 -I --iquote --isystem --idirafter --without -D --defines --compiler --missing-empty --lines --most-read --deps --status" ;;
+        pp) options+=" -p --files --root --follow --null -0 -I --iquote --isystem --idirafter --without -D --defines --compiler --missing-empty --lines --most-read --most-output --deps --status" ;;
     esac
     mapfile -t COMPREPLY < <(compgen -W "$options" -- "$cur")
     case $command:$cur in

@@ -48,6 +48,7 @@ pub sources_are_preprocessed : meaning (codes "incut" ∷ codes "pp" ∷ codes "
         is_missing_empty = false;
         has_markers = false;
         most_read = None;
+        most_output = None;
         deps = None;
         status = None;
       });

@@ -140,6 +140,9 @@ lines = flag (codes "lines")
 abbrev pub most_read : Rule
 most_read = option (codes "most-read")
 
+abbrev pub most_output : Rule
+most_output = option (codes "most-output")
+
 abbrev pub deps : Rule
 deps = option (codes "deps")
 
@@ -226,7 +229,7 @@ macro_rules = define ∷ defines ∷ compiler ∷ missing_empty ∷ lines ∷ []
 
 -- what bounds each source
 abbrev pub bound_rules : List Rule
-bound_rules = most_read ∷ []
+bound_rules = most_read ∷ most_output ∷ []
 
 -- what is written to files beside the answer
 abbrev pub output_rules : List Rule

@@ -81,6 +81,8 @@ pub record Preprocessing : Type 0 where
   pub has_markers : Bool
   -- how many bytes are read for a source at most, if that is given
   pub most_read : Option Text
+  -- how many bytes are printed of a source at most, if that is given
+  pub most_output : Option Text
   -- the file that make rules of what is read are written to
   pub deps : Option Text
   -- the file that is written with how each source ended
@@ -203,6 +205,7 @@ preprocessing_in rows = record {
   is_missing_empty = is_given (codes "missing-empty") rows;
   has_markers = is_given (codes "lines") rows;
   most_read = first_of (codes "most-read") rows;
+  most_output = first_of (codes "most-output") rows;
   deps = first_of (codes "deps") rows;
   status = first_of (codes "status") rows;
 }

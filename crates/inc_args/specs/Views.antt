@@ -57,6 +57,7 @@ seen_pp p = record {
   is_missing_empty = p.is_missing_empty;
   has_markers = p.has_markers;
   most_read = option_map (λ m. m.now) p.most_read;
+  most_output = option_map (λ m. m.now) p.most_output;
   deps = option_map (λ d. d.now) p.deps;
   status = option_map (λ s. s.now) p.status;
 }

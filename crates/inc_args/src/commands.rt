@@ -77,8 +77,8 @@ fn with_search<'a>(alloc: Global, command: Command<'a>) -> Result<Command<'a>, A
 fn with_drop<'a>(alloc: Global, command: Command<'a>) -> Result<Command<'a>, AllocError>
     ensures { IfOk result (λ c. app_of c ≡ with_rules (app_of command.entry) drop_rules) }
 {
-    let drop = "Take the directive at a line of the files that GLOB fits as removed (repeatable)";
-    command.arg(repeated_option(alloc, "drop", "GLOB:LINE", drop))
+    let drop = "Take as removed GLOB:LINE, GLOB:NAME, or all directives of GLOB (repeatable)";
+    command.arg(repeated_option(alloc, "drop", "WHERE", drop))
 }
 
 /// Adds these, after what tells the files of a project.
@@ -120,12 +120,12 @@ fn with_limits<'a>(alloc: Global, command: Command<'a>) -> Result<Command<'a>, A
     ensures { IfOk result (λ c. app_of c ≡ with_rules (app_of command.entry) limit_rules) }
 {
     let fixed = "Do not remove the directives that MARKS lists; `-` is standard input";
-    let keep = "Do not remove the directives of the files that GLOB fits (repeatable)";
+    let keep = "Do not remove GLOB:LINE, GLOB:NAME, or any directive of GLOB (repeatable)";
     let only = "Remove directives of the files alone that GLOB fits (repeatable)";
     let costs = "Read what it costs to remove directives from COSTS; `-` is standard input";
     command
         .arg(option(alloc, "fixed", "MARKS", fixed))?
-        .arg(repeated_option(alloc, "keep", "GLOB[:LINE]", keep))?
+        .arg(repeated_option(alloc, "keep", "WHERE", keep))?
         .arg(repeated_option(alloc, "only", "GLOB", only))?
         .arg(option(alloc, "costs", "COSTS", costs))
 }
@@ -176,7 +176,10 @@ fn with_bounds<'a>(alloc: Global, command: Command<'a>) -> Result<Command<'a>, A
     ensures { IfOk result (λ c. app_of c ≡ with_rules (app_of command.entry) bound_rules) }
 {
     let most_read = "Stop a source once more than BYTES bytes are read for it";
-    command.arg(option(alloc, "most-read", "BYTES", most_read))
+    let most_output = "Stop a source before its output is longer than BYTES bytes";
+    command
+        .arg(option(alloc, "most-read", "BYTES", most_read))?
+        .arg(option(alloc, "most-output", "BYTES", most_output))
 }
 
 /// Adds the options that tell what is written to files beside the answer.

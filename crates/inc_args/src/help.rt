@@ -128,9 +128,10 @@ of the cut, so that this shows whether they are enough:
   incut cut src/main.c include/api.h > cut.txt
   incut why --without cut.txt src/main.c include/api.h
 
---drop takes the directive at a line of each file that GLOB fits as removed:
+--drop takes directives as removed of each file that GLOB fits: that at a LINE, those of a NAME as it
+stands behind #include, or all:
 
-  incut why --drop 'src/*.c:3' src/main.c include/api.h
+  incut why --drop 'src/*.c:3' --drop 'src/**:<zlib.h>' src/main.c include/api.h
 
 --strict refuses to answer where an include names a header that is not found, so that nothing is
 missed. --external excepts headers by their names in includes, of which GLOB fits some:
@@ -178,8 +179,8 @@ source:
   1 include/base.h
 
 Includes inside #if groups are always counted, whether or not the group would be taken. --without
-names a file with directives to take as removed, one a line, --drop the directive at a line of files,
-and --undefined a macro that no build defines on its command line, as for `incut why`.";
+names a file with directives to take as removed, one a line, --drop directives of files, and
+--undefined a macro that no build defines on its command line, as for `incut why`.";
 
 pub(crate) const GRAPH_NOTES: &str =
     "List each include that the sources reach, directly or through other files, as its line and its file,
@@ -205,8 +206,8 @@ Sources are the .c files of the project, or those that --from stands for. The gl
   incut graph -I include --from 'src/net/*.c'
 
 Includes inside #if groups are always listed, whether or not the group would be taken. --without
-names a file with directives to take as removed, one a line, --drop the directive at a line of files,
-and --undefined a macro that no build defines on its command line, as for `incut why`.";
+names a file with directives to take as removed, one a line, --drop directives of files, and
+--undefined a macro that no build defines on its command line, as for `incut why`.";
 
 pub(crate) const CUT_NOTES: &str =
     "Print the include directives to remove so that SOURCE no longer includes HEADER: as few as
@@ -236,10 +237,11 @@ Where these alone lead from SOURCE to HEADER, the answer is such a chain:
   fixed 1
   3 src/main.c
 
---keep names files by a GLOB of which no directive may be removed, or, as GLOB:LINE, the directive at a
-line of each. With --only directives may be removed in the files alone that its GLOB fits:
+--keep names files by a GLOB of which no directive may be removed, or, as GLOB:LINE or GLOB:NAME, that
+at a line or those of a name of each. With --only directives may be removed in the files alone that its
+GLOB fits:
 
-  incut cut --only 'src/**' --keep src/main.c:3 src/main.c include/api.h
+  incut cut --only 'src/**' --keep src/main.c:3 --keep '**:\"log.h\"' src/main.c include/api.h
 
 --costs names a file with what it costs to remove directives: 1 to 1000000, then the directive. The
 others cost 1. The answer is then the cheapest set, and `chain 2 times 5` stands for five chains.
@@ -336,6 +338,12 @@ read for it, a file that is read again counted again:
 
   incut pp -I include --most-read 10000000 src/*.c
 
+With --most-output it stops before the text lines or the pragma with which more than BYTES bytes would be
+printed of it, markers counted, and the line `stop ..` not. Nothing is printed of these lines, and no more
+memory is taken for what is printed:
+
+  incut pp -I include --most-output 100000000 src/*.c
+
 --defines names a file with lines `#define NAME BODY` or `#define NAME(PARAMETERS) BODY`. They come
 before the words of -D. --compiler names one that may have lines `dir PATH`, too, for directories that
 are searched after those of -isystem, and lines `has NAME(ARG) NUMBER` for what a compiler answers to
@@ -348,4 +356,4 @@ Where it cannot go on, the last line is `stop C.F LINE PATH`: cause, fault and p
   2 unbalanced #if         7 include without a name  12 more than 200 nested includes
   3 bad #define or #undef  8 bad #line               13 more than 100000 reads
   4 bad macro call         9 #ifdef without a name   17 more than BYTES read
-  5 bad condition         10 unknown directive";
+  5 bad condition         10 unknown directive       18 more than BYTES printed";

@@ -118,6 +118,7 @@ fn read_pp<'a>(alloc: Global, matches: &ArgMatches<'a>) -> Result<PpArgs<'a>, Al
         is_missing_empty: is_given(matches, "missing-empty"),
         has_markers: is_given(matches, "lines"),
         most_read: given(matches, "most-read"),
+        most_output: given(matches, "most-output"),
         deps: given(matches, "deps"),
         status: given(matches, "status"),
     })

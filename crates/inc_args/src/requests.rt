@@ -145,6 +145,8 @@ pub struct PpArgs<'a> {
     pub has_markers: bool,
     /// How many bytes are read for a source at most, if that is given.
     pub most_read: Option<&'a str>,
+    /// How many bytes are printed of a source at most, if that is given.
+    pub most_output: Option<&'a str>,
     /// The file that make rules of what is read are written to, where there is one.
     pub deps: Option<&'a str>,
     /// The file that is written with how each source ended, where there is one.

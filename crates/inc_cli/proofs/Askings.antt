@@ -9,12 +9,14 @@ use Rattle.inc_inputs.specs.BuildProjects.{Added}
 use Rattle.inc_inputs.specs.Ends.{EndPaths}
 use Rattle.inc_inputs.specs.HeaderNames.{header_notes}
 use Rattle.inc_inputs.specs.IncludePath.{include_path}
+use Rattle.inc_inputs.specs.Inputs.{Gives}
+use Rattle.inc_inputs.specs.NamedPlaces.{Marked}
 use Rattle.inc_inputs.specs.Places.{Places, places_of}
 use Rattle.inc_inputs.specs.ProjectLists.{paths_in}
 use Rattle.inc_inputs.specs.Steps.{Step, comes_to, then}
 use Rattle.inc_inputs.specs.Texts.{Texts}
 use Rattle.inc_cli.specs.Commands.{Command}
-use Rattle.inc_cli.specs.Runs.{Asked, Built, Opened, asked_built, asked_for, asked_opened, built_by, opened_by}
+use Rattle.inc_cli.specs.Runs.{Asked, Built, Opened, asked_built, asked_for, asked_marked, asked_opened, built_by, opened_by}
 
 -- texts that were read
 abbrev pub texts_with : (list : List ℕ) (fixed without : List Mark) (costs : List ℕ) → Texts
@@ -26,7 +28,7 @@ pub opened_made : (q : Question) (t : Texts) (paths : List (List ℕ)) (costs : 
     → (let o : Opened = record { paths = paths; costs = costs; undefined = undefined; is_strict = strict; external = external; path = path } in o) ≡ opened_by q t costs
 opened_made q t paths costs undefined external strict path a b c d e = rw (a, b, c, d, e) refl
 
--- once the places are known, once sources and headers are, once the include paths are, and once the costs are
+-- once the places are known, once sources and headers are, once all marks are, once the include paths are, and once the costs are
 abbrev pub with_places : {S : Type 0} → Language → Command → Question → Opened → Layout → Built → EndPaths → Places → Step S Asked
 with_places language command q o layout b ends places = comes_to (Ok (asked_for language command o layout b ends places (b.notes ++ header_notes layout q)))
 
@@ -34,8 +36,11 @@ abbrev pub with_ends : {S : Type 0} → Language → Command → Question → Li
 with_ends language command q l without fixed o layout b ends =
     then (comes_to (places_of layout q l without fixed)) (with_places language command q o layout b ends)
 
-abbrev pub with_others : {S : Type 0} → Language → Command → Question → Limits → Added → (without fixed : List Mark) → Opened → Layout → (others : List SearchPath) → Step S Asked
-with_others language command q l a without fixed o layout others = asked_built language command q l without fixed o layout (built_by layout a others)
+abbrev pub with_marks : {S : Type 0} → Language → Command → Question → Limits → Opened → Layout → Built → Marked → Step S Asked
+with_marks language command q l o layout b m = asked_marked language command q l m.without m.fixed o layout b
 
-abbrev pub with_costs : {S : Type 0} → Language → Command → Question → Limits → Added → Texts → List Cost → Step S Asked
-with_costs language command q l a t costs = asked_opened language command q l a t.without t.fixed (opened_by q t costs)
+abbrev pub with_others : {S : Type 0} → Gives S → Language → Command → Question → Limits → Added → (without fixed : List Mark) → Opened → Layout → (others : List SearchPath) → Step S Asked
+with_others gives language command q l a without fixed o layout others = asked_built gives language command q l without fixed o layout (built_by layout a others)
+
+abbrev pub with_costs : {S : Type 0} → Gives S → Language → Command → Question → Limits → Added → Texts → List Cost → Step S Asked
+with_costs gives language command q l a t costs = asked_opened gives language command q l a t.without t.fixed (opened_by q t costs)

@@ -7,7 +7,7 @@ use Rattle.inc_lookup.specs.Given.{FailsAfter, HoldsOfGiven}
 use Rattle.inc_lookup.specs.IncludePath.{NamedPath}
 use Rattle.inc_lookup.specs.Projects.{Layout}
 use Rattle.inc_check.specs.Reading.{number_in}
-use Rattle.inc_pp.specs.Settings.{found_in_settings, limited_settings, marked_settings, usual_settings}
+use Rattle.inc_pp.specs.Settings.{bounded_settings, found_in_settings, limited_settings, marked_settings, usual_settings}
 use Rattle.inc_pp.specs.declared.settings.Missing.{Missing}
 use Rattle.inc_pp.specs.declared.settings.Missing.TheVariants.{Empty, Stop}
 use Rattle.inc_report.specs.PpTexts.{IsNextPp, IsPpBy, wanted_of}
@@ -27,7 +27,7 @@ use Rattle.inc_inputs.specs.BuildProjects.{Found, found_preprocessing, with_macr
 use Rattle.inc_inputs.specs.BuildSteps.{found_if}
 use Rattle.inc_build.specs.declared.compiler_words.Kind.{Kind}
 use Rattle.inc_inputs.specs.Questions.{with_questions}
-use Rattle.inc_inputs.specs.Reports.{Report, input_twice, no_file, no_most_read, one_file}
+use Rattle.inc_inputs.specs.Reports.{Report, input_twice, no_file, no_most_output, no_most_read, one_file}
 use Rattle.inc_inputs.specs.Steps.{Step, comes_to, next_of, then, writes_if}
 use Rattle.inc_inputs.specs.ProjectLists.{paths_in}
 use Rattle.inc_inputs.specs.Texts.{are_one, are_twice, listed_layout, names_input, unless, unless_reported}
@@ -63,24 +63,28 @@ searched p texts = include_path p.files (described_dirs texts.compiler.text)
 abbrev pub all_words : Language → Preprocessing → (macros : List (Kind × List ℕ)) → PpTexts → List (List ℕ)
 all_words language p macros texts = with_questions language macros (with_macros (texts.compiler.words ++ texts.defines) macros ++ p.words)
 
+-- what is asked of a project
+abbrev pub pp_asked_for : Language → Preprocessing → (macros : List (Kind × List ℕ)) → (notes : List ℕ) → PpTexts → Layout → PpAsked
+pp_asked_for language p macros notes texts layout = record {
+  paths = paths_in p.files texts.list;
+  layout = layout;
+  question = record {
+    sources = p.sources;
+    words = all_words language p macros texts;
+    settings = found_in_settings (searched p texts).dirs
+        (bounded_settings (bound_of p.most_output)
+        (limited_settings (bound_of p.most_read) (marked_settings p.has_markers (usual_settings language (missing_of p.is_missing_empty)))));
+    without = texts.without;
+    has_rules = is_some p.deps;
+    has_endings = is_some p.status;
+  };
+  notes = notes;
+}
+
 -- by the texts, nothing more being read
 abbrev pub pp_asked : {S : Type 0} → Language → Preprocessing → (macros : List (Kind × List ℕ)) → (notes : List ℕ) → PpTexts → Step S PpAsked
 pp_asked language p macros notes texts =
-    then (comes_to (listed_layout (paths_in p.files texts.list) (searched p texts))) (λ layout.
-    comes_to (Ok (record {
-      paths = paths_in p.files texts.list;
-      layout = layout;
-      question = record {
-        sources = p.sources;
-        words = all_words language p macros texts;
-        settings = found_in_settings (searched p texts).dirs
-            (limited_settings (bound_of p.most_read) (marked_settings p.has_markers (usual_settings language (missing_of p.is_missing_empty))));
-        without = texts.without;
-        has_rules = is_some p.deps;
-        has_endings = is_some p.status;
-      };
-      notes = notes;
-    })))
+    then (comes_to (listed_layout (paths_in p.files texts.list) (searched p texts))) (λ layout. comes_to (Ok (pp_asked_for language p macros notes texts layout)))
 
 -- a project with this list and these notes
 abbrev pub with_texts : (list notes : List ℕ) → Found → Found
@@ -120,9 +124,13 @@ pp_apart gives language p = unless (are_one p.deps p.status) one_file (pp_named 
 abbrev pub pp_bounded : {S : Type 0} → Gives S → Language → Preprocessing → Step S PpAsked
 pp_bounded gives language p = unless (names_input p.deps || names_input p.status) no_file (pp_apart gives language p)
 
--- what bounds it is a number
+-- what bounds its output is a number
+abbrev pub pp_limited : {S : Type 0} → Gives S → Language → Preprocessing → Step S PpAsked
+pp_limited gives language p = unless (is_no_bound p.most_output) no_most_output (pp_bounded gives language p)
+
+-- what bounds what is read for it is a number
 abbrev pub pp_of : {S : Type 0} → Gives S → Language → Preprocessing → Step S PpAsked
-pp_of gives language p = unless (is_no_bound p.most_read) no_most_read (pp_bounded gives language p)
+pp_of gives language p = unless (is_no_bound p.most_read) no_most_read (pp_limited gives language p)
 
 ---- what is printed
 

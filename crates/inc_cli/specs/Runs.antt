@@ -9,6 +9,7 @@ use Rattle.inc_graph.specs.Marks.{Cost, Mark}
 use Rattle.inc_inputs.specs.Ends.{EndPaths, are_ends, asked_ends}
 use Rattle.inc_inputs.specs.IncludePath.{include_path}
 use Rattle.inc_inputs.specs.Inputs.{Gives}
+use Rattle.inc_inputs.specs.NamedPlaces.{Listed, named_places}
 use Rattle.inc_inputs.specs.Places.{Places, places_of}
 use Rattle.inc_inputs.specs.Reports.{Report, input_twice, no_ends}
 use Rattle.inc_inputs.specs.Steps.{Step, comes_to, judged, then}
@@ -91,28 +92,37 @@ opened_by q texts costs = record {
 abbrev pub built_by : Layout → Added → (others : List SearchPath) → Built
 built_by layout a others = record { others = others; read_with = read_with layout a.compiled; notes = a.notes }
 
--- once that is known
-abbrev pub asked_built : {S : Type 0} → Language → Command → Question → Limits → (without fixed : List Mark) → Opened → Layout → Built → Step S Asked
-asked_built language command q l without fixed o layout b =
+-- once that is known, and all marks
+abbrev pub asked_marked : {S : Type 0} → Language → Command → Question → Limits → (without fixed : List Mark) → Opened → Layout → Built → Step S Asked
+asked_marked language command q l without fixed o layout b =
     then (comes_to (asked_ends layout q)) (λ ends.
     then (comes_to (places_of layout q l without fixed)) (λ places.
     comes_to (Ok (asked_for language command o layout b ends places (b.notes ++ header_notes layout q)))))
 
+-- the project of which a question is asked, whose files are read under the paths of the list
+abbrev pub listed_by : Language → Opened → Layout → Listed
+listed_by language o layout = record { layout = layout; written = o.paths; language = language }
+
+-- once what a build adds is known; the words for places read files of the project
+abbrev pub asked_built : {S : Type 0} → Gives S → Language → Command → Question → Limits → (without fixed : List Mark) → Opened → Layout → Built → Step S Asked
+asked_built gives language command q l without fixed o layout b =
+    then (named_places gives (listed_by language o layout) q l without fixed) (λ m. asked_marked language command q l m.without m.fixed o layout b)
+
 -- once the project stands, of whose build this is added
-abbrev pub asked_listed : {S : Type 0} → Language → Command → Question → Limits → Added → (without fixed : List Mark) → Opened → Layout → Step S Asked
-asked_listed language command q l a without fixed o layout =
-    then (comes_to (include_paths_of a.others)) (λ others. asked_built language command q l without fixed o layout (built_by layout a others))
+abbrev pub asked_listed : {S : Type 0} → Gives S → Language → Command → Question → Limits → Added → (without fixed : List Mark) → Opened → Layout → Step S Asked
+asked_listed gives language command q l a without fixed o layout =
+    then (comes_to (include_paths_of a.others)) (λ others. asked_built gives language command q l without fixed o layout (built_by layout a others))
 
 -- once the texts are opened
-abbrev pub asked_opened : {S : Type 0} → Language → Command → Question → Limits → Added → (without fixed : List Mark) → Opened → Step S Asked
-asked_opened language command q l a without fixed o =
-    then (comes_to (listed_layout o.paths o.path)) (λ layout. asked_listed language command q l a without fixed o layout)
+abbrev pub asked_opened : {S : Type 0} → Gives S → Language → Command → Question → Limits → Added → (without fixed : List Mark) → Opened → Step S Asked
+asked_opened gives language command q l a without fixed o =
+    then (comes_to (listed_layout o.paths o.path)) (λ layout. asked_listed gives language command q l a without fixed o layout)
 
--- by the texts, nothing more being read
-abbrev pub asked_by : {S : Type 0} → Language → Command → Question → Limits → Added → Texts → Step S Asked
-asked_by language command q l a texts =
+-- by the texts
+abbrev pub asked_by : {S : Type 0} → Gives S → Language → Command → Question → Limits → Added → Texts → Step S Asked
+asked_by gives language command q l a texts =
     then (judged (AreCosts (unwrap_or l.costs []) texts.costs)) (λ costs.
-    asked_opened language command q l a texts.without texts.fixed (opened_by q texts costs))
+    asked_opened gives language command q l a texts.without texts.fixed (opened_by q texts costs))
 
 -- the words that name what is read for a question, with that of a certificate
 abbrev pub list_names : Command → Question → Limits → List (Option (List ℕ))
@@ -122,11 +132,11 @@ list_names command q l = q.files.list ∷ q.without ∷ l.fixed ∷ l.costs ∷ 
 abbrev pub asked_found : {S : Type 0} → Gives S → Language → Command → Question → Limits → Found → Step S Asked
 asked_found gives language command q l f =
     unless_reported (words_fault f)
-    (then (texts_beside gives f.list (found_question f q) l) (λ texts. asked_by language command (found_question f q) l f.added texts))
+    (then (texts_beside gives f.list (found_question f q) l) (λ texts. asked_by gives language command (found_question f q) l f.added texts))
 
 -- the same where no word names a build: the words of the question stand
 abbrev pub asked_with : {S : Type 0} → Gives S → Language → Command → Question → Limits → Option Found → Step S Asked
-asked_with gives language command q l None = then (texts_of gives q l) (λ texts. asked_by language command q l none_added texts)
+asked_with gives language command q l None = then (texts_of gives q l) (λ texts. asked_by gives language command q l none_added texts)
 asked_with gives language command q l (Some f) = asked_found gives language command q l f
 
 -- where the words name sources and headers

@@ -1,9 +1,9 @@
 //! The preprocessing of sources of a project.
 ghost use Rattle.std.specs.Prelude.{◌≡◌, ◌≢◌, ◌++◌, ℕ, Err, List, false, map, option_map, IfOk};
 ghost use Rattle.inc_args.specs.Views.{seen_pp};
-ghost use Rattle.inc_pp.specs.Settings.{found_in_settings, limited_settings, marked_settings, usual_settings};
+ghost use Rattle.inc_pp.specs.Settings.{bounded_settings, found_in_settings, limited_settings, marked_settings, usual_settings};
 ghost use Rattle.inc_cli.specs.Outputs.{IsRun};
-ghost use Rattle.inc_cli.specs.Preprocessings.{IsPreprocessed, PrintsEach, all_words, bound_of, is_no_bound, missing_of, pp_apart, pp_asked, pp_bounded, pp_found, pp_named, pp_of, searched, with_texts, writes_beside, writes_texts};
+ghost use Rattle.inc_cli.specs.Preprocessings.{IsPreprocessed, PrintsEach, all_words, bound_of, is_no_bound, missing_of, pp_apart, pp_asked, pp_bounded, pp_found, pp_limited, pp_named, pp_of, searched, with_texts, writes_beside, writes_texts};
 ghost use Rattle.inc_inputs.specs.Reports.{out_of_memory};
 ghost use Rattle.inc_inputs.specs.BuildProjects.{with_macros};
 ghost use Rattle.inc_inputs.specs.Steps.{Comes, next_of};
@@ -42,10 +42,28 @@ pub(crate) fn preprocess<I: Inputs, O: ByteSink>(
     if is_no_bound(args.most_read) {
         return (Err(Failure::NoMostRead), out);
     }
-    preprocess_bounded(setup, args, inputs, out)
+    preprocess_limited(setup, args, inputs, out)
 }
 
 /// The same where the word for how many bytes are read is a number.
+fn preprocess_limited<I: Inputs, O: ByteSink>(
+    setup: &Setup<'_>,
+    args: &PpArgs<'_>,
+    inputs: I,
+    out: O,
+) -> (Result<Answer, Failure>, O)
+    requires { O.has_failed out ≡ false }
+    ensures { seen_end result.0 ≢ Err out_of_memory →
+        IsRun (pp_limited I.gives setup.now.language (seen_pp args.now)) (IsPreprocessed I.gives I.puts (seen_pp args.now)) inputs
+        (output_of (O.written out) (O.written result.1) (O.has_failed result.1)) (seen_end result.0) }
+{
+    if is_no_bound(args.most_output) {
+        return (Err(Failure::NoMostOutput), out);
+    }
+    preprocess_bounded(setup, args, inputs, out)
+}
+
+/// The same where that for how many bytes are printed is one, too.
 fn preprocess_bounded<I: Inputs, O: ByteSink>(
     setup: &Setup<'_>,
     args: &PpArgs<'_>,
@@ -313,13 +331,14 @@ fn is_no_bound(word: Option<&str>) -> bool
 /// How sources are preprocessed, by the words, with this include path.
 fn settings_of<'n>(setup: &Setup<'_>, args: &PpArgs<'_>, dirs: &'n [NamedDir<'n>]) -> Settings<'n>
     ensures { let p = seen_pp args.now in result ≡ found_in_settings dirs.now
-        (limited_settings (bound_of p.most_read)
-        (marked_settings p.has_markers (usual_settings setup.now.language (missing_of p.is_missing_empty)))) }
+        (bounded_settings (bound_of p.most_output) (limited_settings (bound_of p.most_read)
+        (marked_settings p.has_markers (usual_settings setup.now.language (missing_of p.is_missing_empty))))) }
 {
     let usual = Settings::usual(setup.language, missing_of(args.is_missing_empty));
     let marked = usual.with_markers(args.has_markers);
     let limited = marked.with_most_read(bound_of(args.most_read));
-    limited.with_dirs(dirs)
+    let bounded = limited.with_most_output(bound_of(args.most_output));
+    bounded.with_dirs(dirs)
 }
 
 /// The include path by the words and by what describes a compiler.

@@ -8,14 +8,15 @@ ghost use Rattle.inc_cli.specs.Commands.{bounded, certificate_of, has_headers, h
 ghost use Rattle.inc_cli.specs.Outputs.{ended};
 ghost use Rattle.inc_cli.specs.Questions.{IsAnswered, IsAsked, IsKnown, Known, Prints};
 ghost use Rattle.inc_inputs.specs.Reports.{out_of_memory, report_of};
-ghost use Rattle.inc_cli.specs.Runs.{IsUnplaced, asked_built, asked_by, asked_for, asked_found, asked_listed, asked_named, asked_of, built_by};
+ghost use Rattle.inc_cli.specs.Runs.{IsUnplaced, asked_built, asked_by, asked_for, asked_found, asked_listed, asked_marked, asked_named, asked_of, built_by, listed_by};
 ghost use Rattle.inc_inputs.specs.BuildPlaces.{include_paths_of};
 ghost use Rattle.inc_inputs.specs.Places.{places_of};
 ghost use Rattle.inc_inputs.specs.ProjectLists.{paths_in};
 ghost use Rattle.inc_inputs.specs.IncludePath.{include_path};
-ghost use Rattle.inc_inputs.specs.Steps.{next_of};
+ghost use Rattle.inc_inputs.specs.NamedPlaces.{named_places};
+ghost use Rattle.inc_inputs.specs.Steps.{Comes, next_of};
 ghost use Rattle.inc_inputs.specs.Texts.{AreCosts};
-ghost use Rattle.inc_inputs.specs.Views.{added_in, end_paths_in, places_in, project_in, seen_texts};
+ghost use Rattle.inc_inputs.specs.Views.{added_in, end_paths_in, places_in, project_in, seen_marked, seen_texts};
 ghost use Rattle.inc_cli.specs.Views.{asked_in, built_in, opened_in, output_of, seen_command, seen_end};
 ghost use Rattle.inc_report.specs.Questions.{FailsAt};
 ghost use Rattle.inc_report.specs.Writing.{is_of_certificate};
@@ -24,12 +25,12 @@ use crate::answers::Answer;
 use crate::reports::run_failure;
 use crate::runs::Setup;
 use inc_args::{LimitArgs, QuestionArgs};
-use inc_graph::{Cost, Mark};
+use inc_graph::Cost;
 use inc_inputs::{
-    Added, BuildProject, EndPaths, Failure, Hindrance, Inputs, ListedFiles, Places, Texts,
-    are_ends, are_twice, asked_ends, asked_places, bytes_of_words, costs_of, find_question,
-    include_path, list_paths, listed_project, named_failure, other_paths, path_end_in, read_texts,
-    read_texts_beside, read_with,
+    Added, BuildProject, EndPaths, Failure, Hindrance, Inputs, Listed, ListedFiles, Marked, Places,
+    Texts, are_ends, are_twice, asked_ends, asked_places, bytes_of_words, costs_of, find_question,
+    include_path, list_paths, listed_project, named_failure, named_places, other_paths,
+    path_end_in, read_texts, read_texts_beside, read_with,
 };
 use inc_lookup::{IncludePath, NamedPath, Project};
 use inc_report::{
@@ -246,7 +247,7 @@ fn ask_read<I: Inputs, O: ByteSink>(
     requires { O.has_failed out ≡ false }
     ensures { (known : Known) → seen_end result.0 ≢ Err out_of_memory →
         IsAsked I.gives (record { opens = I.opens; left = I.Stream.left }) (seen_command asking.entry.command)
-        (next_of (λ t. asked_by setup.now.language (seen_command asking.entry.command) (seen_question asking.entry.question.now) (seen_limits asking.entry.limits.now) (added_in added) t)
+        (next_of (λ t. asked_by I.gives setup.now.language (seen_command asking.entry.command) (seen_question asking.entry.question.now) (seen_limits asking.entry.limits.now) (added_in added) t)
         (seen_texts texts))
         known inputs (output_of (O.written out) (O.written result.1) (O.has_failed result.1)) (seen_end result.0) }
 {
@@ -258,18 +259,11 @@ fn ask_read<I: Inputs, O: ByteSink>(
                 without,
                 costs,
             } = texts;
-            let marks = Marks { without, fixed };
+            let marks = Marked { without, fixed };
             ask_texts(setup, asking, &list, &costs, marks, added, inputs, out)
         }
         Err(failure) => (Err(failure), out),
     }
-}
-
-/// The directives that the texts of a question mark: those that are taken as removed, and those that may not be removed.
-#[derive(Drop)]
-struct Marks {
-    without: Vec<Mark>,
-    fixed: Vec<Mark>,
 }
 
 /// The same of texts: the list and the costs, and the directives that two others mark.
@@ -278,7 +272,7 @@ fn ask_texts<'t, I: Inputs, O: ByteSink>(
     asking: Asking<'t>,
     list: &'t [u8],
     costs: &'t [u8],
-    marks: Marks,
+    marks: Marked,
     added: Added,
     inputs: I,
     out: O,
@@ -286,7 +280,7 @@ fn ask_texts<'t, I: Inputs, O: ByteSink>(
     requires { O.has_failed out ≡ false }
     ensures { (known : Known) → seen_end result.0 ≢ Err out_of_memory →
         IsAsked I.gives (record { opens = I.opens; left = I.Stream.left }) (seen_command asking.entry.command)
-        (asked_by setup.now.language (seen_command asking.entry.command) (seen_question asking.entry.question.now) (seen_limits asking.entry.limits.now) (added_in added)
+        (asked_by I.gives setup.now.language (seen_command asking.entry.command) (seen_question asking.entry.question.now) (seen_limits asking.entry.limits.now) (added_in added)
         (record { list = list.now; fixed = marks.fixed.items; without = marks.without.items; costs = costs.now }))
         known inputs (output_of (O.written out) (O.written result.1) (O.has_failed result.1)) (seen_end result.0) }
 {
@@ -308,7 +302,7 @@ fn ask_listed<'p, I: Inputs, O: ByteSink>(
     asking: Asking<'p>,
     opened: &'p Opened<'p>,
     project: &'p Project<'p>,
-    marks: Marks,
+    marks: Marked,
     added: Added,
     inputs: I,
     out: O,
@@ -316,7 +310,7 @@ fn ask_listed<'p, I: Inputs, O: ByteSink>(
     requires { O.has_failed out ≡ false }
     ensures { (known : Known) → seen_end result.0 ≢ Err out_of_memory →
         IsAsked I.gives (record { opens = I.opens; left = I.Stream.left }) (seen_command asking.entry.command)
-        (asked_listed setup.now.language (seen_command asking.entry.command) (seen_question asking.entry.question.now) (seen_limits asking.entry.limits.now) (added_in added)
+        (asked_listed I.gives setup.now.language (seen_command asking.entry.command) (seen_question asking.entry.question.now) (seen_limits asking.entry.limits.now) (added_in added)
         marks.without.items marks.fixed.items (opened_in opened.entry.now) project.entry.now)
         known inputs (output_of (O.written out) (O.written result.1) (O.has_failed result.1)) (seen_end result.0) }
 {
@@ -362,7 +356,7 @@ fn ask_built<'p, I: Inputs, O: ByteSink>(
     asking: Asking<'p>,
     opened: &'p Opened<'p>,
     project: &'p Project<'p>,
-    marks: Marks,
+    marks: Marked,
     built: Built,
     inputs: I,
     out: O,
@@ -370,7 +364,32 @@ fn ask_built<'p, I: Inputs, O: ByteSink>(
     requires { O.has_failed out ≡ false }
     ensures { (known : Known) → seen_end result.0 ≢ Err out_of_memory →
         IsAsked I.gives (record { opens = I.opens; left = I.Stream.left }) (seen_command asking.entry.command)
-        (asked_built setup.now.language (seen_command asking.entry.command) (seen_question asking.entry.question.now) (seen_limits asking.entry.limits.now)
+        (asked_built I.gives setup.now.language (seen_command asking.entry.command) (seen_question asking.entry.question.now) (seen_limits asking.entry.limits.now)
+        marks.without.items marks.fixed.items (opened_in opened.entry.now) project.entry.now (built_in built))
+        known inputs (output_of (O.written out) (O.written result.1) (O.has_failed result.1)) (seen_end result.0) }
+{
+    let mut inputs = inputs;
+    match named_marks(setup, asking, opened, project, marks, &mut inputs) {
+        Ok(marks) => ask_marked(setup, asking, opened, project, marks, built, inputs, out),
+        Err(failure) => (Err(failure), out),
+    }
+}
+
+/// The same where all marks are known.
+fn ask_marked<'p, I: Inputs, O: ByteSink>(
+    setup: &Setup<'_>,
+    asking: Asking<'p>,
+    opened: &'p Opened<'p>,
+    project: &'p Project<'p>,
+    marks: Marked,
+    built: Built,
+    inputs: I,
+    out: O,
+) -> (Result<Answer, Failure>, O)
+    requires { O.has_failed out ≡ false }
+    ensures { (known : Known) → seen_end result.0 ≢ Err out_of_memory →
+        IsAsked I.gives (record { opens = I.opens; left = I.Stream.left }) (seen_command asking.entry.command)
+        (asked_marked setup.now.language (seen_command asking.entry.command) (seen_question asking.entry.question.now) (seen_limits asking.entry.limits.now)
         marks.without.items marks.fixed.items (opened_in opened.entry.now) project.entry.now (built_in built))
         known inputs (output_of (O.written out) (O.written result.1) (O.has_failed result.1)) (seen_end result.0) }
 {
@@ -379,13 +398,41 @@ fn ask_built<'p, I: Inputs, O: ByteSink>(
         question,
         limits,
     } = asking;
-    let Marks { without, fixed } = marks;
-    let placed = match place_words(setup.alloc, project, question, limits, without, fixed) {
+    let placed = match place_words(setup.alloc, project, question, limits, marks) {
         Ok(placed) => placed,
         Err(failure) => return (Err(failure), out),
     };
     ask_placed(
         setup, command, opened, project, &built, &placed, inputs, out,
+    )
+}
+
+/// Marks, and those that the words of a question name in the files of its project.
+fn named_marks<'p, I: Inputs>(
+    setup: &Setup<'_>,
+    asking: Asking<'p>,
+    opened: &'p Opened<'p>,
+    project: &'p Project<'p>,
+    marks: Marked,
+    inputs: &mut I,
+) -> Result<Marked, Failure>
+    ensures { Comes (named_places I.gives (listed_by setup.now.language (opened_in opened.entry.now) project.entry.now) (seen_question asking.entry.question.now)
+        (seen_limits asking.entry.limits.now) marks.without.items marks.fixed.items) inputs.old (seen_marked result) inputs.new }
+{
+    let language = setup.language;
+    let written = opened.paths.as_slice();
+    let listed = Listed {
+        project,
+        written,
+        language,
+    };
+    named_places(
+        setup.alloc,
+        inputs,
+        listed,
+        asking.question,
+        asking.limits,
+        marks,
     )
 }
 
@@ -483,26 +530,26 @@ struct Placed<'p> {
     places: Places,
 }
 
-/// Both by the words of a question, and by the marks of its texts.
+/// Both by the words of a question, and by marks that are known.
 fn place_words<'p>(
     alloc: Global,
     project: &'p Project<'_>,
     question: &QuestionArgs<'p>,
     limits: &LimitArgs<'p>,
-    without: Vec<Mark>,
-    fixed: Vec<Mark>,
+    marks: Marked,
 ) -> Result<Placed<'p>, Failure>
     ensures ends { IfOk result (λ p. asked_ends project.now (seen_question question.now) ≡ Ok (end_paths_in p.ends)) }
-    ensures places { IfOk result (λ p. places_of project.now (seen_question question.now) (seen_limits limits.now) without.items fixed.items
+    ensures places { IfOk result (λ p. places_of project.now (seen_question question.now) (seen_limits limits.now) marks.without.items marks.fixed.items
         ≡ Ok (places_in p.places)) }
     ensures notes { IfOk result (λ p. p.ends.notes.items ≡ header_notes project.now (seen_question question.now)) }
     ensures fault { IfErr result (λ f. report_of f ≢ out_of_memory → IsUnplaced project.now (seen_question question.now) (seen_limits limits.now)
-        without.items fixed.items (report_of f)) }
+        marks.without.items marks.fixed.items (report_of f)) }
 {
     let ends = match asked_ends(alloc, project, question) {
         Ok(ends) => ends,
         Err(failure) => return Err(failure),
     };
+    let Marked { without, fixed } = marks;
     match asked_places(alloc, project, question, limits, without, fixed) {
         Ok(places) => Ok(Placed { ends, places }),
         Err(failure) => Err(failure),

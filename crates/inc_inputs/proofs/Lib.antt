@@ -3,14 +3,16 @@ pub mod ComingLemmas
 pub mod CommonLemmas
 pub mod CountLemmas
 pub mod DefineLemmas
+pub mod EachLemmas
 pub mod EndLemmas
-pub mod FolderLemmas
 pub mod FrontLemmas
 pub mod GroundLemmas
 pub mod HeaderLemmas
 pub mod ListLemmas
 pub mod MacroLemmas
 pub mod MarkListLemmas
+pub mod NamedParts
+pub mod NamedSteps
 pub mod NameReports
 pub mod NoteLemmas
 pub mod PathLemmas
@@ -21,3 +23,4 @@ pub mod ProjectLemmas
 pub mod QuestionLemmas
 pub mod SourceLemmas
 pub mod StepLemmas
+pub mod WrittenLemmas

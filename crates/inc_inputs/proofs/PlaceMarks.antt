@@ -10,7 +10,8 @@ use Rattle.inc_lookup.specs.Projects.{Layout}
 use Rattle.inc_graph.specs.Marks.{Mark}
 use Rattle.inc_graph.specs.Members.{is_member}
 use Rattle.inc_inputs.specs.Ends.{is_empty, named_files}
-use Rattle.inc_inputs.specs.Places.{Marks, kept_flags, line_colon, marks_after, marks_behind, whole_words, word_marks, words_marks}
+use Rattle.inc_inputs.specs.PlaceWords.{line_colon, name_colon}
+use Rattle.inc_inputs.specs.Places.{Marks, kept_flags, marks_after, marks_behind, whole_words, word_marks, words_marks}
 use Rattle.inc_inputs.specs.Reports.{Report}
 use Rattle.inc_inputs.specs.declared.sides.Side.{Side}
 use Rattle.inc_inputs.proofs.EndLemmas.{filter_next, path_behind}
@@ -58,12 +59,12 @@ module _ {X : Type 0} (f : X → List ℕ) (xs : List X) (i : ℕ) (d : X) (low 
       ∙ ap (λ (ms : List Mark). start ++ ms) (sym (ap (λ (n : ℕ). filter_map p (take n (map f xs))) (add-one i) ∙ ap (filter_map p) (take-suc (map f xs) i [] within)
       ∙ filter_map-append p (take i (map f xs)) (get_or (map f xs) i [] ∷ [])))
 
-  -- one word more, if it has no line
+  -- one word more, if it has no line and no name
   pub whole_next : (old new : List (List ℕ)) → old ≡ whole_words (take i (map f xs)) → new ≡ old ++ whole_words (f (get_or xs i d) ∷ []) → new ≡ whole_words (take (i + 1) (map f xs))
   whole_next old new so_far is =
       is ∙ ap (λ (ws : List (List ℕ)). ws ++ whole_words (f (get_or xs i d) ∷ [])) so_far
       ∙ ap (λ (q : List ℕ). whole_words (take i (map f xs)) ++ whole_words (q ∷ [])) (sym (path_behind f xs i d low))
-      ∙ sym (filter_next (λ w. not (is_some (line_colon w))) (map f xs) i [] within)
+      ∙ sym (filter_next (λ w. not (is_some (line_colon w) || is_some (name_colon w))) (map f xs) i [] within)
 
 ---- flags
 

@@ -14,6 +14,8 @@ pub mod IncludePath
 pub mod Inputs
 pub mod Lists
 pub mod MarkLists
+pub mod NamedPlaces
+pub mod PlaceWords
 pub mod Places
 pub mod PpTexts
 pub mod ProjectLists

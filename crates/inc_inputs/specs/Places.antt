@@ -1,27 +1,19 @@
--- Places of a project on the command line: `GLOB`, the files that it fits, or `GLOB:LINE`, the directive at a line of each of these.
-use Rattle.std.specs.Prelude.{ℕ, ◌+◌, ◌==◌, ◌&&◌, ◌||◌, not, Bool, List, [], ◌∷◌, ◌++◌, Option, Some, None, Result, Ok, Err, if◌then◌else◌, drop, filter, filter_map, is_some, length, map, nat_lt, take}
-use Rattle.std.specs.Char.{is_ascii_digit}
-use Rattle.std.specs.List.{prefix_len, range_with_len}
+-- Places of a project on the command line: `GLOB`, the files that it fits, or `GLOB:LINE`, the directive at a line of each of these. What
+-- `GLOB:NAME` stands for, the files say.
+use Rattle.std.specs.Prelude.{ℕ, ◌+◌, ◌&&◌, ◌||◌, not, Bool, List, [], ◌∷◌, ◌++◌, Option, Some, None, Result, Ok, Err, if◌then◌else◌, drop, filter, filter_map, is_some, length, map, take}
+use Rattle.std.specs.List.{range_with_len}
 use Rattle.inc_lookup.specs.Projects.{Layout}
 use Rattle.inc_graph.specs.Marks.{Mark}
 use Rattle.inc_graph.specs.Members.{is_member}
 use Rattle.inc_check.specs.Reading.{mark_with, number_in}
 use Rattle.inc_args.specs.Meaning.{Limits, Question}
 use Rattle.inc_inputs.specs.Ends.{Paths, is_empty, named_files, option_of, word_paths, words_paths}
-use Rattle.inc_inputs.specs.MarkLists.{colon_from}
+use Rattle.inc_inputs.specs.PlaceWords.{line_colon, name_colon}
 use Rattle.inc_inputs.specs.Reports.{Report, no_line}
 use Rattle.inc_inputs.specs.declared.sides.Side.{Side}
 use Rattle.inc_inputs.specs.declared.sides.Side.TheVariants.{Drop, Keep, Only}
 
 ---- the directive at a line
-
--- one digit or more, and nothing else
-abbrev pub is_number : List ℕ → Bool
-is_number text = let n : ℕ = prefix_len is_ascii_digit text in nat_lt 0 n && (n == length text)
-
--- where the colon is before the line that a word ends in, if it ends in one
-abbrev pub line_colon : (word : List ℕ) → Option ℕ
-line_colon word = colon_from is_number 0 word
 
 -- marks, or the report of a failure
 abbrev pub Marks : Type 0
@@ -36,16 +28,11 @@ abbrev pub line_marks : (option word : List ℕ) → (line : Option ℕ) → Pat
 line_marks option word line (Err r) = Err r
 line_marks option word line (Ok paths) = some_marks option word (filter_map (mark_with line) paths)
 
--- a word without a line: one of --keep is about whole files
-abbrev pub whole_marks : Side → (word : List ℕ) → Marks
-whole_marks Keep word = Ok []
-whole_marks side word = Err (no_line (option_of side) word)
-
 abbrev pub marks_by : Layout → Side → (word : List ℕ) → (colon : Option ℕ) → Marks
 marks_by layout side word (Some n) = line_marks (option_of side) word (number_in (drop (n + 1) word)) (word_paths layout side (take n word))
-marks_by layout side word None = whole_marks side word
+marks_by layout side word None = Ok []
 
--- the marks for which a word stands
+-- the marks for which a word with a line stands
 abbrev pub word_marks : Layout → Side → (word : List ℕ) → Marks
 word_marks layout side word = marks_by layout side word (line_colon word)
 
@@ -68,7 +55,7 @@ words_marks layout side (w ∷ ws) = marks_after (word_marks layout side w) (wor
 
 -- the words that are about whole files
 abbrev pub whole_words : (words : List (List ℕ)) → List (List ℕ)
-whole_words words = filter (λ w. not (is_some (line_colon w))) words
+whole_words words = filter (λ w. not (is_some (line_colon w) || is_some (name_colon w))) words
 
 -- for each file whether it is kept: it is one of these, or there are some in which alone directives may be removed, and it is none of those.
 -- No flag is there where neither are

@@ -4,7 +4,7 @@ use Rattle.inc_args.specs.Meaning.{FileWords}
 use Rattle.inc_inputs.specs.Inputs.{FilesBelow, Gives}
 use Rattle.inc_inputs.specs.Lists.{list_paths}
 use Rattle.inc_inputs.specs.Reports.{two_lists}
-use Rattle.inc_inputs.specs.Steps.{Step, comes_to, reads, reads_as, then}
+use Rattle.inc_inputs.specs.Steps.{Step, comes_to, each, reads, reads_as, then}
 use Rattle.inc_inputs.specs.declared.file_lists.PathEnd.{PathEnd}
 use Rattle.inc_inputs.specs.declared.file_lists.PathEnd.TheVariants.{LineFeed, Nul}
 
@@ -13,17 +13,19 @@ abbrev pub or_here : List (List ℕ) → List (List ℕ)
 or_here [] = codes "." ∷ []
 or_here (folder ∷ folders) = folder ∷ folders
 
--- the files below folders, one folder after the other, behind those that are known
-abbrev pub files_below : {S : Type 0} → Gives S → (known : List ℕ) → (folders : List (List ℕ)) → Step S (List ℕ)
-files_below gives known [] = comes_to (Ok known)
-files_below gives known (folder ∷ folders) =
-    then (reads_as gives folder (FilesBelow folder)) (λ more. files_below gives (known ++ more) folders)
+-- the files below a folder, behind those that are known
+abbrev pub with_folder : {S : Type 0} → Gives S → (folder known : List ℕ) → Step S (List ℕ)
+with_folder gives folder known = then (reads_as gives folder (FilesBelow folder)) (λ more. comes_to (Ok (known ++ more)))
+
+-- those below folders, one folder after the other
+abbrev pub files_below : {S : Type 0} → Gives S → (folders : List (List ℕ)) → Step S (List ℕ)
+files_below gives folders = each (with_folder gives) folders []
 
 -- a word that names it and folders exclude each other
 abbrev pub list_by : {S : Type 0} → Gives S → (name : Option (List ℕ)) → (folders : List (List ℕ)) → Step S (List ℕ)
 list_by gives (Some name) [] = reads gives name
 list_by gives (Some name) (folder ∷ folders) = comes_to (Err two_lists)
-list_by gives None folders = files_below gives [] (or_here folders)
+list_by gives None folders = files_below gives (or_here folders)
 
 -- the text of the list
 abbrev pub list_of : {S : Type 0} → Gives S → FileWords → Step S (List ℕ)

@@ -11,7 +11,7 @@ use Rattle.inc_text.specs.Ascii.{blank, close_parenthesis, equals, open_parenthe
 use Rattle.inc_text.specs.Languages.{is_gnu}
 use Rattle.inc_text.specs.declared.languages.Language.{Language}
 use Rattle.inc_inputs.specs.BuildProjects.{name_in}
-use Rattle.inc_inputs.specs.Places.{is_number}
+use Rattle.inc_inputs.specs.PlaceWords.{is_number}
 
 ---- a line
 

@@ -89,6 +89,9 @@ no_most = record { message = codes "--max is a number"; status = 2 }
 abbrev pub no_most_read : Report
 no_most_read = record { message = codes "--most-read is a number"; status = 2 }
 
+abbrev pub no_most_output : Report
+no_most_output = record { message = codes "--most-output is a number"; status = 2 }
+
 abbrev pub no_scan_format : Report
 no_scan_format = record { message = codes "--format of scan is text, gcc or json"; status = 2 }
 
@@ -127,6 +130,10 @@ fits_none option word = about_option option word (codes "' fits no file") 4
 abbrev pub no_line : (option word : List ℕ) → Report
 no_line option word = about_option option word (codes "' names no line") 2
 
+-- of a place whose files have no directive of its name
+abbrev pub no_directive : (option word : List ℕ) → Report
+no_directive option word = about_option option word (codes "' names no include directive") 4
+
 -- of a word for a header in which several paths end; two of them are named
 abbrev pub several_headers : (word first second : List ℕ) → Report
 several_headers word first second =
@@ -157,6 +164,7 @@ report_of failure.FormatOfFiles = format_of_files
 report_of failure.NoFormat = no_format
 report_of failure.NoMost = no_most
 report_of failure.NoMostRead = no_most_read
+report_of failure.NoMostOutput = no_most_output
 report_of failure.NoScanFormat = no_scan_format
 report_of failure.TwoLanguages = two_languages
 report_of failure.TwoLists = two_lists
@@ -164,6 +172,7 @@ report_of failure.NoEnds = no_ends
 report_of failure.NoHeaders = no_headers
 report_of (failure.BadGlob text) = record { message = text.items; status = 2 }
 report_of (failure.NoLine text) = record { message = text.items; status = 2 }
+report_of (failure.NoDirective text) = record { message = text.items; status = 4 }
 report_of (failure.NotUndefined text) = record { message = text.items; status = 2 }
 report_of (failure.Build text) = record { message = text.items; status = 2 }
 report_of (failure.FitsNone text) = record { message = text.items; status = 4 }

@@ -1,6 +1,6 @@
 -- Steps of a run. A step leads from one state of the inputs to another, and comes to a value, or to the report of a failure, which ends the
 -- run. So what is read, in which order, and which failure is the first is said by one definition.
-use Rattle.std.specs.Prelude.{◌≡◌, ◌≢◌, ℕ, Bool, true, false, List, [], Option, Some, None, Result, Ok, Err}
+use Rattle.std.specs.Prelude.{◌≡◌, ◌≢◌, ℕ, Bool, true, false, List, [], ◌∷◌, Option, Some, None, Result, Ok, Err}
 use Rattle.inc_text.specs.declared.devices.ReadFault.{ReadFault}
 use Rattle.inc_inputs.specs.Inputs.{Gives, Input, Puts, named}
 use Rattle.inc_inputs.specs.Reports.{Report, cannot_write_file, out_of_memory, read_report}
@@ -24,6 +24,11 @@ next_of next (Err report) = comes_to (Err report)
 -- one step, then the one that its value asks for
 abbrev pub then : {S A B : Type 0} → Step S A → (A → Step S B) → Step S B
 then {S} {A} {B} first next old answer new = (x : Result A Report) × (mid : S) × first old x mid × next_of next x mid answer new
+
+-- a step for each of these, from what the one before it came to
+abbrev pub each : {S A B : Type 0} → (step : B → A → Step S A) → List B → A → Step S A
+each step [] a = comes_to (Ok a)
+each step (b ∷ bs) a = then (step b a) (each step bs)
 
 -- a reading as a step
 abbrev pub reported : (name : List ℕ) → Result (List ℕ) ReadFault → Result (List ℕ) Report

@@ -8,6 +8,7 @@ use Rattle.inc_inputs.specs.BuildNotes as notes
 use Rattle.inc_inputs.specs.BuildProjects.{Found, macro_word}
 use Rattle.inc_inputs.specs.BuildProjects as builds
 use Rattle.inc_inputs.specs.Ends as ends
+use Rattle.inc_inputs.specs.NamedPlaces as named
 use Rattle.inc_inputs.specs.Places as places
 use Rattle.inc_inputs.specs.PpTexts as pp
 use Rattle.inc_inputs.specs.Questions as questions
@@ -28,6 +29,8 @@ use Rattle.inc_inputs.specs.declared.build_dirs.Dirs.{Dirs}
 use Rattle.inc_inputs.specs.declared.build_texts.Notes.{Notes}
 use Rattle.inc_inputs.specs.declared.ends.EndPaths.{EndPaths}
 use Rattle.inc_inputs.specs.declared.failures.Failure.{Failure}
+use Rattle.inc_inputs.specs.declared.named_marks.Listed.{Listed}
+use Rattle.inc_inputs.specs.declared.named_marks.Marked.{Marked}
 use Rattle.inc_inputs.specs.declared.places.Places.{Places}
 use Rattle.inc_inputs.specs.declared.pp_texts.Defined.{Defined}
 use Rattle.inc_inputs.specs.declared.pp_texts.PpTexts.{PpTexts}
@@ -59,6 +62,15 @@ places_in p = record { without = p.without.items; fixed = p.fixed.items; kept = 
 
 abbrev pub seen_places : Result Places Failure → Result places.Places Report
 seen_places result = seen places_in result
+
+abbrev pub listed_in : Listed → named.Listed
+listed_in l = record { layout = l.project.now; written = map (λ w. w.now) l.written.now; language = l.language }
+
+abbrev pub marked_in : Marked → named.Marked
+marked_in m = record { without = m.without.items; fixed = m.fixed.items }
+
+abbrev pub seen_marked : Result Marked Failure → Result named.Marked Report
+seen_marked result = seen marked_in result
 
 -- a word of an entry for a macro
 abbrev pub macro_of : MacroWord → Kind × List ℕ

@@ -464,6 +464,7 @@ impl BuildProject {
             is_missing_empty: args.is_missing_empty,
             has_markers: args.has_markers,
             most_read: args.most_read,
+            most_output: args.most_output,
             deps: args.deps,
             status: args.status,
         })

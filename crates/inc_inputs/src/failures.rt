@@ -1,6 +1,6 @@
 //! Why the program gives no answer, and what it reports of that.
 ghost use Rattle.std.specs.Prelude.{◌≡◌, ◌≢◌, ◌<◌, ◌++◌, [], IfOk, OnOk, map, slice_index_or, codes, decimal};
-ghost use Rattle.inc_inputs.specs.Reports.{about_option, bad_glob, fits_none, hex_digit, hindrance_text, no_line, out_of_memory, report_of, read_report, list_report, compiler_report, definitions_report, project_report, several_headers, shown, shown_byte};
+ghost use Rattle.inc_inputs.specs.Reports.{about_option, bad_glob, fits_none, hex_digit, hindrance_text, no_directive, no_line, out_of_memory, report_of, read_report, list_report, compiler_report, definitions_report, project_report, several_headers, shown, shown_byte};
 
 use inc_check::CertFault;
 use inc_lookup::ProjectFault;
@@ -73,6 +73,8 @@ pub enum Failure {
     NoMost,
     /// How many bytes are read at most is no number.
     NoMostRead,
+    /// How many bytes are printed at most is no number.
+    NoMostOutput,
     /// The files are said to be in two languages.
     TwoLanguages,
     /// The files are listed, and are to be found below folders.
@@ -89,6 +91,8 @@ pub enum Failure {
     NotUndefined(Vec<u8>),
     /// A glob fits no file of the list: the option, the glob, and that.
     FitsNone(Vec<u8>),
+    /// The files of a place have no directive of its name: the option, the place, and that.
+    NoDirective(Vec<u8>),
     /// Several paths end in a word for a header: the word, and two of them.
     SeveralHeaders(Vec<u8>),
     /// A compilation database is none, or does not answer a question: its path, and why.
@@ -214,6 +218,16 @@ pub(crate) fn unlined(alloc: Global, option: &str, word: &[u8]) -> Failure
 {
     match option_text(alloc, option, word, "' names no line") {
         Ok(text) => Failure::NoLine(text),
+        Err(_) => Failure::NoMemory,
+    }
+}
+
+/// The failure to report of a place whose files have no directive of its name.
+pub(crate) fn undirected(alloc: Global, option: &str, word: &[u8]) -> Failure
+    ensures { report_of result ≢ out_of_memory → report_of result ≡ no_directive option.now word.now }
+{
+    match option_text(alloc, option, word, "' names no include directive") {
+        Ok(text) => Failure::NoDirective(text),
         Err(_) => Failure::NoMemory,
     }
 }
@@ -369,6 +383,7 @@ impl Failure {
             Failure::NoFormat => (b"--format is text, gcc, json or dot", b""),
             Failure::NoMost => (b"--max is a number", b""),
             Failure::NoMostRead => (b"--most-read is a number", b""),
+            Failure::NoMostOutput => (b"--most-output is a number", b""),
             Failure::NoScanFormat => (b"--format of scan is text, gcc or json", b""),
             Failure::TwoLanguages => (b"--extended and --gnu exclude each other", b""),
             Failure::TwoLists => (b"--files and --root exclude each other", b""),
@@ -378,7 +393,8 @@ impl Failure {
             | Failure::NoLine(text)
             | Failure::NotUndefined(text)
             | Failure::Build(text)
-            | Failure::FitsNone(text) => (b"", text),
+            | Failure::FitsNone(text)
+            | Failure::NoDirective(text) => (b"", text),
             Failure::SeveralHeaders(text) => (b"several files end in ", text),
             Failure::NoSourceLeft => (b"each file of --from is one of --to", b""),
             Failure::NoMemory => (b"out of memory", b""),
@@ -399,6 +415,7 @@ impl Failure {
             | Failure::NoFormat
             | Failure::NoMost
             | Failure::NoMostRead
+            | Failure::NoMostOutput
             | Failure::NoScanFormat
             | Failure::TwoLanguages
             | Failure::TwoLists
@@ -416,6 +433,7 @@ impl Failure {
             | Failure::MalformedList(_)
             | Failure::MalformedCompiler(_)
             | Failure::FitsNone(_)
+            | Failure::NoDirective(_)
             | Failure::SeveralHeaders(_)
             | Failure::NoSourceLeft => 4,
             Failure::NoMemory => 5,

@@ -7,14 +7,14 @@ ghost use Rattle.inc_graph.specs.FileSets.{AreFlags};
 ghost use Rattle.inc_graph.specs.Marks as spec;
 ghost use Rattle.inc_graph.specs.Members.{is_member};
 ghost use Rattle.inc_inputs.specs.Ends.{is_empty, option_of};
-ghost use Rattle.inc_inputs.specs.Places.{is_number, kept_files, kept_flags, line_colon, line_marks, marks_behind, marks_by, places_of, some_marks, whole_marks, whole_words, word_marks, words_marks};
+ghost use Rattle.inc_inputs.specs.PlaceWords.{line_colon, name_colon};
+ghost use Rattle.inc_inputs.specs.Places.{kept_files, kept_flags, line_marks, marks_behind, marks_by, places_of, some_marks, whole_words, word_marks, words_marks};
 ghost use Rattle.inc_inputs.specs.Reports.{out_of_memory, report_of};
 ghost use Rattle.inc_inputs.specs.Views.{seen_flags, seen_marks, seen_places};
 
 use crate::ends::{add_paths, flag_files, paths_of};
 use crate::failures::{Failure, unlined};
-use crate::file_lists::first_end;
-use crate::mark_lists::digits_len;
+use crate::place_words::{line_colon, name_colon};
 use crate::sides::Side;
 use inc_args::{LimitArgs, QuestionArgs};
 use inc_check::number_in;
@@ -115,19 +115,7 @@ fn add_marks<'p>(
 {
     match line_colon(word) {
         Some(colon) => add_lines(marks, alloc, project, side, word, colon),
-        None => no_marks(alloc, side, word),
-    }
-}
-
-/// A word without a line stands for no directive, or is none of its option.
-fn no_marks(alloc: Global, side: Side, word: &[u8]) -> Result<(), Failure>
-    ensures none { OnOk result (whole_marks side word.now ≡ Ok []) }
-    ensures fault { IfErr result (λ failure. report_of failure ≢ out_of_memory →
-        whole_marks side word.now ≡ Err (report_of failure)) }
-{
-    match side {
-        Side::Keep => Ok(()),
-        _ => Err(unlined(alloc, side.option(), word)),
+        None => Ok(()),
     }
 }
 
@@ -198,7 +186,7 @@ fn push_marks(
 }
 
 /// Adds the directive at a line of a file.
-fn push_mark(
+pub(crate) fn push_mark(
     marks: &mut Vec<Mark>,
     alloc: Global,
     line: Option<u32>,
@@ -214,31 +202,6 @@ fn push_mark(
         marks.push(mark)?;
     }
     Ok(())
-}
-
-/// Where the colon is before the line that a word ends in, if it ends in one. A byte is looked at twice at most: digits behind a colon
-/// end before the next one.
-fn line_colon(word: &[u8]) -> Option<usize>
-    ensures is { result ≡ line_colon word.now }
-    ensures within { IfSome result (λ at. at < length word.now) }
-{
-    let mut at = 0;
-    while let Some(colon) = first_end(&word[at..], b':') {
-        let place = at + colon;
-        if is_number(&word[place + 1..]) {
-            return Some(place);
-        }
-        at = place + 1;
-    }
-    None
-}
-
-/// Whether a text is one digit or more, and nothing else.
-pub(crate) fn is_number(text: &[u8]) -> bool
-    ensures { result ≡ is_number text.now }
-{
-    let digits = digits_len(text);
-    digits > 0 && digits == text.len()
 }
 
 /// For each file of the project whether the words of `--keep` and `--only` keep all of its directives; none at all where they keep none.
@@ -265,7 +228,7 @@ fn kept_files<'p>(
     }
 }
 
-/// The words without a line.
+/// The words without a line and without a name.
 fn whole_words<'w>(alloc: Global, words: &[&'w str]) -> Result<Vec<&'w str>, AllocError>
     ensures { IfOk result (λ whole. map (λ w. w.now) whole.items ≡ whole_words (map (λ w. w.now) words.now)) }
 {
@@ -276,15 +239,22 @@ fn whole_words<'w>(alloc: Global, words: &[&'w str]) -> Result<Vec<&'w str>, All
     Ok(whole)
 }
 
-/// Adds a word, unless it has a line.
+/// Adds a word, unless it has a line or a name.
 fn add_whole<'w>(whole: &mut Vec<&'w str>, word: &'w str) -> Result<(), AllocError>
     ensures { OnOk result (map (λ w. w.now) whole.new.items
         ≡ map (λ w. w.now) whole.old.items ++ whole_words (word.entry.now ∷ [])) }
 {
-    if line_colon(word.as_bytes()).is_none() {
+    if is_whole(word.as_bytes()) {
         whole.push(word)?;
     }
     Ok(())
+}
+
+/// Whether a word has neither a line nor a name.
+fn is_whole(word: &[u8]) -> bool
+    ensures { result ≡ not (is_some (line_colon word.now) || is_some (name_colon word.now)) }
+{
+    line_colon(word).is_none() && name_colon(word).is_none()
 }
 
 /// The flags of the files that paths keep, or that memory ran out.

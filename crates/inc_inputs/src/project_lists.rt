@@ -1,8 +1,8 @@
 //! The list of a project's files: what a word names, or the files below folders.
-ghost use Rattle.std.specs.Prelude.{◌≡◌, [], map};
+ghost use Rattle.std.specs.Prelude.{◌≡◌, map};
 ghost use Rattle.inc_args.specs.Views.{seen_files};
 ghost use Rattle.inc_inputs.specs.Inputs.{FilesBelow};
-ghost use Rattle.inc_inputs.specs.ProjectLists.{files_below, list_of, or_here, path_end_in, path_end_of};
+ghost use Rattle.inc_inputs.specs.ProjectLists.{files_below, list_of, or_here, path_end_in, path_end_of, with_folder};
 ghost use Rattle.inc_inputs.specs.Steps.{Comes, reads_as};
 ghost use Rattle.inc_inputs.specs.Views.{seen_text};
 
@@ -52,7 +52,7 @@ fn list_or_here<I: Inputs>(
     inputs: &mut I,
     folders: &[&str],
 ) -> Result<Vec<u8>, Failure>
-    ensures { Comes (files_below I.gives [] (or_here (map (λ f. f.now) folders.now))) inputs.old (seen_text result) inputs.new }
+    ensures { Comes (files_below I.gives (or_here (map (λ f. f.now) folders.now))) inputs.old (seen_text result) inputs.new }
 {
     if folders.is_empty() {
         return list_below(alloc, inputs, &["."]);
@@ -66,13 +66,27 @@ fn list_below<I: Inputs>(
     inputs: &mut I,
     folders: &[&str],
 ) -> Result<Vec<u8>, Failure>
-    ensures { Comes (files_below I.gives [] (map (λ f. f.now) folders.now)) inputs.old (seen_text result) inputs.new }
+    ensures { Comes (files_below I.gives (map (λ f. f.now) folders.now)) inputs.old (seen_text result) inputs.new }
 {
     let mut list = Vec::new(alloc);
     for folder in folders {
-        let more = list_folder(alloc, inputs, folder)?;
-        list.extend_from_slice(&more)?;
+        list = with_folder(alloc, inputs, folder, list)?;
     }
+    Ok(list)
+}
+
+/// The files below a folder, behind those that are known.
+fn with_folder<I: Inputs>(
+    alloc: Global,
+    inputs: &mut I,
+    folder: &str,
+    known: Vec<u8>,
+) -> Result<Vec<u8>, Failure>
+    ensures { Comes (with_folder I.gives folder.now known.items) inputs.old (seen_text result) inputs.new }
+{
+    let mut list = known;
+    let more = list_folder(alloc, inputs, folder)?;
+    list.extend_from_slice(&more)?;
     Ok(list)
 }
 

@@ -9,7 +9,7 @@ ghost use Rattle.inc_inputs.specs.declared.build_macros.MacroWord.{MacroWord as 
 ghost use Rattle.inc_macro.specs.Macros.{is_among};
 
 use crate::build_macros::{MacroWord, name_in};
-use crate::places::is_number;
+use crate::place_words::is_number;
 use inc_text::Language;
 use std::alloc::{AllocError, Global};
 

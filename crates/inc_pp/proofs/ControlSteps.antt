@@ -194,7 +194,7 @@ abbrev pub staying : Here → Result State Cause → Result (State × Here) Caus
 staying h r = r >>= λ s. Ok (s, h)
 
 changed-is : (k : DirectiveKind) (f : File) (l : FileLine) (s : State) (h : Here) → (k ≡ Line → ⊥) →
-    changed k f l s h ≡ staying (here_by k s.table.language l.tokens h) (changed_by (marks_in f h) k f.index l.tokens s)
+    changed k f l s h ≡ staying (here_by k s.table.language l.tokens h) (changed_by f.task.settings.most_output (marks_in f h) k f.index l.tokens s)
 changed-is Line f l s h not_line = absurd (not_line refl)
 changed-is Define f l s h not_line = by (caused cause.Define (define (operands l) s.table))
   where
@@ -209,23 +209,27 @@ changed-is Undef f l s h not_line = by (caused cause.Define (undef (operands l) 
 changed-is _ f l s h not_line = refl
 
 module _ (f : File) (l : FileLine) (s : State) (h : Here) (file : ℕ) (at : f.index ≡ file) (settings : Settings) (u : IsUnder settings f) (marks : Option Place)
-    (marked : marks ≡ marks_of settings (place_under settings h)) (k : DirectiveKind) (ts : List Tok) (tokens : l.tokens ≡ ts) (not_line : k ≡ Line → ⊥) where
+    (marked : marks ≡ marks_of settings (place_under settings h)) (most : Option ℕ) (limited : most ≡ settings.most_output) (k : DirectiveKind) (ts : List Tok) (tokens : l.tokens ≡ ts) (not_line : k ≡ Line → ⊥) where
   marks-are : marks_in f h ≡ marks
   marks-are = ap (λ (t : Settings). marks_of t (place_under t h)) u ∙ sym marked
 
-  rest-is : (r : Result State Cause) → changed_by marks k file ts s ≡ r → changed k f l s h ≡ staying (here_by k s.table.language ts h) r
+  most-is : f.task.settings.most_output ≡ most
+  most-is = ap (λ (t : Settings). t.most_output) u ∙ sym limited
+
+  rest-is : (r : Result State Cause) → changed_by most marks k file ts s ≡ r → changed k f l s h ≡ staying (here_by k s.table.language ts h) r
   rest-is r e =
       changed-is k f l s h not_line
-      ∙ ap (λ (m : Option Place). staying (here_by k s.table.language l.tokens h) (changed_by m k f.index l.tokens s)) marks-are
-      ∙ ap (λ us. staying (here_by k s.table.language us h) (changed_by marks k f.index us s)) tokens
-      ∙ ap (λ i. staying (here_by k s.table.language ts h) (changed_by marks k i ts s)) at ∙ ap (staying (here_by k s.table.language ts h)) e
+      ∙ ap (λ (n : Option ℕ). staying (here_by k s.table.language l.tokens h) (changed_by n (marks_in f h) k f.index l.tokens s)) most-is
+      ∙ ap (λ (m : Option Place). staying (here_by k s.table.language l.tokens h) (changed_by most m k f.index l.tokens s)) marks-are
+      ∙ ap (λ us. staying (here_by k s.table.language us h) (changed_by most marks k f.index us s)) tokens
+      ∙ ap (λ i. staying (here_by k s.table.language ts h) (changed_by most marks k i ts s)) at ∙ ap (staying (here_by k s.table.language ts h)) e
 
   pub rest-done : (new : State) (after : Here) (language : Language) → language ≡ s.table.language → after ≡ here_by k language ts h →
-      changed_by marks k file ts s ≡ Ok new → changed k f l s h ≡ Ok (new, after)
+      changed_by most marks k file ts s ≡ Ok new → changed k f l s h ≡ Ok (new, after)
   rest-done new after language same known e =
       rest-is (Ok new) e ∙ ap (λ (m : Language). Ok (new, here_by k m ts h)) (sym same) ∙ ap (λ (x : Here). Ok (new, x)) (sym known)
 
-  pub rest-stop : (c : Cause) → changed_by marks k file ts s ≡ Err c → changed k f l s h ≡ Err c
+  pub rest-stop : (c : Cause) → changed_by most marks k file ts s ≡ Err c → changed k f l s h ≡ Err c
   rest-stop c e = rest-is (Err c) e
 
 ---- all but include directives

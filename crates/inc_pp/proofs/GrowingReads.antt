@@ -21,9 +21,9 @@ use Rattle.inc_expand.specs.declared.places.Mode.TheVariants.{Plain}
 use Rattle.inc_expand.specs.Expansion.{Item, Meter}
 use Rattle.inc_expand.specs.Openings.{Held as HeldToken, held_source, opening}
 use Rattle.inc_pp.specs.declared.causes.Cause.{Cause}
-use Rattle.inc_pp.specs.declared.causes.Cause.TheVariants.{BadPragma, Expand}
+use Rattle.inc_pp.specs.declared.causes.Cause.TheVariants.{BadPragma, Expand, TooMuchOutput}
 use Rattle.inc_pp.specs.declared.frames.Frame.{Frame}
-use Rattle.inc_pp.specs.Directives.{after_pragma, line_operands, names_once, changed, control_of, ends_call, is_stacking, released_for, restacked, with_table}
+use Rattle.inc_pp.specs.Directives.{after_pragma, line_operands, names_once, changed, control_of, ends_call, is_stacking, put_pragma, released_for, restacked, with_table}
 use Rattle.inc_pp.specs.Files.{FileFault, tree_of}
 use Rattle.inc_pp.specs.Includes.{Header, after_found, found_from, header_of, include_target, included, is_import, led_to}
 use Rattle.inc_pp.specs.Preprocessing.{group_read, section_read, tree_read, counted_read, file_read, reading, most_depth, outcome_of, with_read}
@@ -31,7 +31,8 @@ use Rattle.inc_pp.specs.Settings.{is_too_much}
 use Rattle.inc_pp.specs.OpenCalls.{called_name, first_line_in, open_behind, spellings}
 use Rattle.inc_pp.specs.Pragmas.{Laid, laid}
 use Rattle.inc_pp.specs.Poison.{asked, asked_directive, is_poisonable, line_asked, names_poison, poison, poison_all, poisoned_by}
-use Rattle.inc_pp.specs.Runs.{closed_or, expanded, is_unclosed, line_of_run, marks_in, put_laid, released_at, run_expanded, run_given, run_opened, run_read, text_read, tokens_read, with_meter, with_waiting}
+use Rattle.inc_pp.specs.Printed.{printed}
+use Rattle.inc_pp.specs.Runs.{bounded, closed_or, expanded, is_unclosed, line_of_run, marks_in, put_laid, put_out, released_at, run_expanded, run_given, run_opened, run_read, text_read, tokens_read, with_meter, with_waiting}
 use Rattle.inc_pp.specs.Sections.{condition_of, operands}
 use Rattle.inc_pp.specs.Tasks.{Task, State, Entry, Here, Halt, Deeper, File, caused, layout_in, place_of, start}
 use Rattle.inc_pp.specs.Walks.{Held, all_read, deeper_at, ending_read, file_at, lines_read, parts_in, open_read}
@@ -70,16 +71,26 @@ module _ (before : List ℕ) where
   abbrev IsOnGiven : State × List HeldToken → Type 0
   IsOnGiven r = IsOn r.0
 
-  put_on : (f : File) (h : Here) (s : State) (ts : List Tok) → IsOn s → Keeps IsOn (run_expanded f h s ts)
-  put_on f h s ts n = keeps_then (expanded_on f h s ts n) (λ r k. keeps_after _ (λ l. keeps_ok k))
+  bounded_on : (most : Option ℕ) (s : State) → IsOn s → Keeps IsOn (bounded most s)
+  bounded_on most s n = by (is_too_much most (length (printed s.output)))
+    where
+      by : (b : Bool) → Keeps IsOn (cond {A = Result State Cause} b (Err TooMuchOutput) (Ok s))
+      by true = keeps_err
+      by false = keeps_ok n
 
-  laid_on : (file : ℕ) (s : State) (call : List HeldToken) (meter : Meter) (r : Result Laid Cause) → IsOn s → Keeps IsOnGiven (r >>= λ l. Ok (put_laid file l (with_meter meter s), call))
-  laid_on file s call meter (Ok l) n = keeps_ok n
-  laid_on file s call meter (Err c) n = keeps_err
+  put_on : (f : File) (h : Here) (s : State) (ts : List Tok) → IsOn s → Keeps IsOn (run_expanded f h s ts)
+  put_on f h s ts n =
+      keeps_then (expanded_on f h s ts n) (λ r k. keeps_after _ (λ l. bounded_on f.task.settings.most_output (put_laid f.index l r.1) k))
+
+  laid_on : (most : Option ℕ) (file : ℕ) (s : State) (call : List HeldToken) (meter : Meter) (r : Result Laid Cause) → IsOn s
+      → Keeps IsOnGiven (r >>= λ l. bounded most (put_laid file l (with_meter meter s)) >>= λ t. Ok (t, call))
+  laid_on most file s call meter (Ok l) n = keeps_then (bounded_on most (put_laid file l (with_meter meter s)) n) (λ t k. keeps_ok k)
+  laid_on most file s call meter (Err c) n = keeps_err
 
   items_on : (f : File) (h : Here) (s : State) (r : Result (List Item × List HeldToken × Meter) Cause) → IsOn s
-      → Keeps IsOnGiven (r >>= λ x. laid s.table.language (marks_in f h) None x.0 >>= λ l. Ok (put_laid f.index l (with_meter x.2 s), x.1))
-  items_on f h s (Ok x) n = laid_on f.index s x.1 x.2 (laid s.table.language (marks_in f h) None x.0) n
+      → Keeps IsOnGiven (r >>= λ x. laid s.table.language (marks_in f h) None x.0 >>= λ l.
+      bounded f.task.settings.most_output (put_laid f.index l (with_meter x.2 s)) >>= λ t. Ok (t, x.1))
+  items_on f h s (Ok x) n = laid_on f.task.settings.most_output f.index s x.1 x.2 (laid s.table.language (marks_in f h) None x.0) n
   items_on f h s (Err c) n = keeps_err
 
   opened_on : (f : File) (h : Here) (s : State) (ts : List Tok) → IsOn s → Keeps IsOnGiven (run_opened f h s ts)
@@ -155,18 +166,19 @@ module _ (before : List ℕ) where
       by true = keeps_ok (poison_on ts s n)
       by false = keeps_err
 
-  pragma_kept : (a b c : Bool) (s t : State) (r q : Result State Cause) → IsOn s → Keeps IsOn r → Keeps IsOn q → IsOn t
-      → Keeps IsOn (cond a (Ok s) (cond b r (cond c q (Ok t))))
-  pragma_kept true b c s t r q n k i m = keeps_ok n
-  pragma_kept false true c s t r q n k i m = k
-  pragma_kept false false true s t r q n k i m = i
-  pragma_kept false false false s t r q n k i m = keeps_ok m
+  pragma_kept : (a b c : Bool) (s : State) (r q p : Result State Cause) → IsOn s → Keeps IsOn r → Keeps IsOn q → Keeps IsOn p
+      → Keeps IsOn (cond a (Ok s) (cond b r (cond c q p)))
+  pragma_kept true b c s r q p n k i m = keeps_ok n
+  pragma_kept false true c s r q p n k i m = k
+  pragma_kept false false true s r q p n k i m = i
+  pragma_kept false false false s r q p n k i m = m
 
   pragma_on : (f : File) (l : FileLine) (s : State) (h : Here) → IsOn s → Keeps IsOn (after_pragma f l s h)
   pragma_on f l s h n =
-      pragma_kept (names_once (operands l)) (is_stacking s.table.language (operands l)) (names_poison s.table.language (operands l)) _ _
-      (restacked (operands l) s.table >>= λ t. Ok (with_table t s)) (poisoned_by (drop 2 (operands l)) s) n
-      (keeps_after (restacked (operands l) s.table) (λ t. keeps_ok n)) (poisoned_on (drop 2 (operands l)) s n) n
+      pragma_kept (names_once (operands l)) (is_stacking s.table.language (operands l)) (names_poison s.table.language (operands l)) _
+      (restacked (operands l) s.table >>= λ t. Ok (with_table t s)) (poisoned_by (drop 2 (operands l)) s) _ n
+      (keeps_after (restacked (operands l) s.table) (λ t. keeps_ok n)) (poisoned_on (drop 2 (operands l)) s n)
+      (bounded_on f.task.settings.most_output (put_out (put_pragma s.table.language (marks_in f h) (line_of_tokens l.tokens) l.tokens) s) n)
 
   changed_on : (directive : DirectiveKind) (f : File) (l : FileLine) (s : State) (h : Here) → IsOn s → Keeps IsOnHere (changed directive f l s h)
   changed_on Define f l s h n = keeps_after _ (λ x. keeps_ok n)

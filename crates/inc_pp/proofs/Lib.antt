@@ -7,6 +7,7 @@ pub mod Prints
 pub mod StopSteps
 pub mod PoisonSteps
 pub mod OperatorSteps
+pub mod MeasureSteps
 pub mod RunSteps
 pub mod TextRuns
 pub mod WaitingParts

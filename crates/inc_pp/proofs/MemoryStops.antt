@@ -40,7 +40,7 @@ use Rattle.inc_pp.specs.declared.causes.Cause.{Cause}
 use Rattle.inc_pp.specs.declared.causes.Cause.TheVariants as cause
 use Rattle.inc_pp.specs.declared.settings.Missing.{Missing}
 use Rattle.inc_pp.specs.declared.settings.Missing.TheVariants as missing
-use Rattle.inc_pp.specs.Directives.{after_pragma, changed, control_of, counted, directive_read, ends_call, line_operands, released_for, renumbered, with_table}
+use Rattle.inc_pp.specs.Directives.{after_pragma, changed, control_of, counted, directive_read, ends_call, line_operands, put_pragma, released_for, renumbered, with_table}
 use Rattle.inc_pp.specs.Files.{FileFault, lines_or_fault, of_balance, text_tree, tree_of, tree_of_lines}
 use Rattle.inc_pp.specs.Includes.{found_from, header_in, header_of, include_target, included, is_done, led_to, most_reads, not_found, wanted}
 use Rattle.inc_pp.specs.MemoryCauses.{IsNotMemory}
@@ -48,7 +48,8 @@ use Rattle.inc_pp.specs.Pragmas.{Laid, after_literal, after_name, after_open, be
 use Rattle.inc_pp.specs.Preprocessing.{group_read, section_read, tree_read, counted_read, file_read, reading, most_depth, outcome_of, preprocessing, with_read, named_settings, source_read}
 use Rattle.inc_pp.specs.OpenCalls.{called_name, first_line_in, open_behind, spellings}
 use Rattle.inc_pp.specs.Poison.{asked, asked_directive, is_poisonable, is_poisoned, line_asked, names_poison, poison_all, poisoned_by, poisons}
-use Rattle.inc_pp.specs.Runs.{closed_or, expanded, is_unclosed, line_of_run, marks_in, released, released_at, run_expanded, run_given, run_opened, run_read, text_read, tokens_read, with_waiting}
+use Rattle.inc_pp.specs.Printed.{printed}
+use Rattle.inc_pp.specs.Runs.{bounded, closed_or, expanded, is_unclosed, line_of_run, marks_in, put_laid, put_out, released, released_at, run_expanded, run_given, run_opened, run_read, text_read, tokens_read, with_meter, with_waiting}
 use Rattle.inc_pp.specs.Sections.{condition_of, first_name, if_defined, if_not_defined, if_true, is_taken, operands}
 use Rattle.inc_pp.specs.Settings.{Settings, is_too_much}
 use Rattle.inc_pp.specs.Tasks.{Task, State, Entry, Here, Halt, Deeper, File, begun, caused, halting, layout_in, place_of, search_of, source_at, start}
@@ -186,16 +187,26 @@ line_has f l s =
     halting_has f (line_of_tokens l.tokens) s (asked_directive s l.tokens)
     (if_named (poisons s.table.language (drop 1 l.tokens)) l.tokens (asked s.poisoned l.tokens) (asked_has s.poisoned l.tokens))
 
+bounded_has : (most : Option ℕ) (s : State) → Has (bounded most s)
+bounded_has most s = by (is_too_much most (length (printed s.output)))
+  where
+    by : (b : Bool) → Has (if b then Err cause.TooMuchOutput else Ok s)
+    by true = tt
+    by false = tt
+
 put_has : (f : File) (h : Here) (s : State) (ts : List Tok) → Has (run_expanded f h s ts)
 put_has f h s ts =
     then_has (expanded f h s ts) _ (expanded_has f h s ts) (λ r.
-    then_has (laid s.table.language (marks_in f h) None r.0) _ (laid_has s.table.language (marks_in f h) None r.0) (λ l. tt))
+    then_has (laid s.table.language (marks_in f h) None r.0) _ (laid_has s.table.language (marks_in f h) None r.0) (λ l.
+    bounded_has f.task.settings.most_output (put_laid f.index l r.1)))
 
 opened_has : (f : File) (h : Here) (s : State) (ts : List Tok) → Has (run_opened f h s ts)
 opened_has f h s ts =
     let around : Surroundings = record { table = s.table; mode = Plain; place = place_of f h } in
     then_has (caused cause.Expand (opening around s.meter h.waiting ts)) _ (caused_has cause.Expand (opening around s.meter h.waiting ts) (opening_has around s.meter h.waiting ts)) (λ r.
-    then_has (laid s.table.language (marks_in f h) None r.0) _ (laid_has s.table.language (marks_in f h) None r.0) (λ l. tt))
+    then_has (laid s.table.language (marks_in f h) None r.0) _ (laid_has s.table.language (marks_in f h) None r.0) (λ l.
+    let put = put_laid f.index l (with_meter r.2 s) in
+    then_has (bounded f.task.settings.most_output put) _ (bounded_has f.task.settings.most_output put) (λ t. tt)))
 
 closed_has : (language : Language) (r : Result State Cause) (opened : Result (State × List Held) Cause) → Has r → Has opened → Has (closed_or language r opened)
 closed_has language (Ok t) opened h k = tt
@@ -285,18 +296,19 @@ if_poisoned : (b : Bool) (s : State) → Has (if b then Ok s else Err cause.BadP
 if_poisoned true s = tt
 if_poisoned false s = tt
 
-if_stacked : (a b c : Bool) (s t : State) (r q : Result State Cause) → Has r → Has q → Has (if a then Ok s else if b then r else if c then q else Ok t)
-if_stacked true b c s t r q h k = tt
-if_stacked false true c s t r q h k = h
-if_stacked false false true s t r q h k = k
-if_stacked false false false s t r q h k = tt
+if_stacked : (a b c : Bool) (s : State) (r q p : Result State Cause) → Has r → Has q → Has p → Has (if a then Ok s else if b then r else if c then q else p)
+if_stacked true b c s r q p h k i = tt
+if_stacked false true c s r q p h k i = h
+if_stacked false false true s r q p h k i = k
+if_stacked false false false s r q p h k i = i
 
 pragma_line_has : (f : File) (l : FileLine) (s : State) (h : Here) → Has (after_pragma f l s h)
 pragma_line_has f l s h =
-    if_stacked (names_once (operands l)) (is_stacking s.table.language (operands l)) (names_poison s.table.language (operands l)) _ _
-    (restacked (operands l) s.table >>= λ t. Ok (with_table t s)) (poisoned_by (drop 2 (operands l)) s)
+    if_stacked (names_once (operands l)) (is_stacking s.table.language (operands l)) (names_poison s.table.language (operands l)) _
+    (restacked (operands l) s.table >>= λ t. Ok (with_table t s)) (poisoned_by (drop 2 (operands l)) s) _
     (then_has (restacked (operands l) s.table) _ (restacked_has (operands l) s.table) (λ t. tt))
     (if_poisoned (list_all (is_poisonable s.table.language) (drop 2 (operands l))) (poison_all (drop 2 (operands l)) s))
+    (bounded_has f.task.settings.most_output (put_out (put_pragma s.table.language (marks_in f h) (line_of_tokens l.tokens) l.tokens) s))
 
 changed_has : (directive : DirectiveKind) (f : File) (l : FileLine) (s : State) (h : Here) → Has (changed directive f l s h)
 changed_has Define f l s h =

@@ -56,21 +56,22 @@ module _ (o : Operators) (literal : List ℕ) (at : ℕ) (line : Option (List Ce
 
 ---- several tokens
 
-taken_more : (first b : Bool) (old between new : Operators) (js : List Item) (i : Item) → Taken takes_operand first old js between → ((c : Bool) → takes_operand between c i new)
-    → Taken takes_operand first old (js ++ i ∷ []) new
-taken_more first b old between new [] i t k = (new, subst (λ (o : Operators). takes_operand o first i new) (sym t) (k first), refl)
-taken_more first b old between new (j ∷ js) i (mid, t, rest) k = (mid, t, taken_more false b mid between new js i rest k)
+taken_more : {S : Type 0} (takes : S → Bool → Item → S → Type 0) (first : Bool) (old between new : S) (js : List Item) (i : Item) → Taken takes first old js between
+    → ((c : Bool) → takes between c i new) → Taken takes first old (js ++ i ∷ []) new
+taken_more takes first old between new [] i t k = (new, subst (λ o. takes o first i new) (sym t) (k first), refl)
+taken_more takes first old between new (j ∷ js) i (mid, t, rest) k = (mid, t, taken_more takes false mid between new js i rest k)
 
-pub source-more : (first b : Bool) (old between new : Operators) (ts : List Token) (k : ℕ) (d : Token) (i : Item) → k < length ts
-    → Taken takes_operand first old (map item_of_source (map seen (take k ts))) between → i ≡ item_of_source (seen (get_or ts k d)) → takes_operand between b i new
-    → Taken takes_operand first old (map item_of_source (map seen (take (k + 1) ts))) new
-source-more first b old between new ts k d i l h e t =
+-- where it does not count whether a token is the first
+pub source-more : {S : Type 0} (takes : S → Bool → Item → S → Type 0) (first : Bool) (old between new : S) (ts : List Token) (k : ℕ) (d : Token) (i : Item) → k < length ts
+    → Taken takes first old (map item_of_source (map seen (take k ts))) between → i ≡ item_of_source (seen (get_or ts k d)) → ((c : Bool) → takes between c i new)
+    → Taken takes first old (map item_of_source (map seen (take (k + 1) ts))) new
+source-more takes first old between new ts k d i l h e t =
     let n : k + 1 ≡ suc k = omega arith in
-    subst (λ is. Taken takes_operand first old is new)
+    subst (λ is. Taken takes first old is new)
     (ap (λ j. map item_of_source (map seen (take k ts)) ++ j ∷ []) e
     ∙ sym (ap (λ j. map item_of_source (map seen (take j ts))) n ∙ ap (λ us. map item_of_source (map seen us)) (take-suc ts k d l)
     ∙ ap (map item_of_source) (map-append seen (take k ts) (get_or ts k d ∷ [])) ∙ map-append item_of_source (map seen (take k ts)) (seen (get_or ts k d) ∷ [])))
-    (taken_more first b old between new (map item_of_source (map seen (take k ts))) i h (λ c. t))
+    (taken_more takes first old between new (map item_of_source (map seen (take k ts))) i h t)
 
 -- what all give, and that more was put out
 pub all-taken : (first : Bool) (old new : Operators) (js : List Item) → Taken takes_operand first old js new → (outcome new [] ≡ outcome old js) × Grows old.output new.output

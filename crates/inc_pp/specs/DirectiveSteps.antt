@@ -16,7 +16,7 @@ use Rattle.inc_pp.specs.declared.causes.Cause.TheVariants as cause
 use Rattle.inc_pp.specs.declared.settings.Missing.{Missing}
 use Rattle.inc_pp.specs.Directives.{Numbering, counted, line_operands, names_once, put_pragma, names_poison, poisoned_by, renumbered, with_system, with_table, is_stacking, restacked}
 use Rattle.inc_pp.specs.Includes.{Header, header_in, is_done, most_reads, not_found, with_once}
-use Rattle.inc_pp.specs.Runs.{put_out}
+use Rattle.inc_pp.specs.Runs.{bounded, put_out}
 use Rattle.inc_pp.specs.Steps.{expansion_at}
 use Rattle.inc_pp.specs.Tasks.{State, Here, caused}
 
@@ -49,13 +49,17 @@ renumbered_at h last place table meter ts =
 abbrev pub restacked_by : List Tok → State → Result State Cause
 restacked_by ts s = restacked (drop 2 ts) s.table >>= λ t. Ok (with_table t s)
 
+-- what a pragma changes that is put out as it is, or not at all
+abbrev pub put_by : (most : Option ℕ) → (marks : Option Place) → List Tok → State → Result State Cause
+put_by most marks ts s = bounded most (put_out (put_pragma s.table.language marks (line_of_tokens ts) ts) s)
+
 -- what a pragma changes
-abbrev pub pragma_by : (marks : Option Place) → ℕ → List Tok → State → Result State Cause
-pragma_by marks file ts s =
+abbrev pub pragma_by : (most : Option ℕ) → (marks : Option Place) → ℕ → List Tok → State → Result State Cause
+pragma_by most marks file ts s =
     if names_once (drop 2 ts) then Ok (with_once file s) else
     if is_stacking s.table.language (drop 2 ts) then restacked_by ts s else
     if names_poison s.table.language (drop 2 ts) then poisoned_by (drop 2 (drop 2 ts)) s
-    else Ok (put_out (put_pragma s.table.language marks (line_of_tokens ts) ts) s)
+    else put_by most marks ts s
 
 abbrev pub define_by : List Tok → State → Result State Cause
 define_by ts s = caused cause.Define (define (drop 2 ts) s.table) >>= λ t. Ok (with_table t s)
@@ -69,11 +73,11 @@ here_by Pragma language ts h = with_system language (drop 2 ts) h
 here_by _ language ts h = h
 
 -- what it changes else
-abbrev pub changed_by : (marks : Option Place) → DirectiveKind → ℕ → List Tok → State → Result State Cause
-changed_by marks Define file ts s = define_by ts s
-changed_by marks Undef file ts s = undef_by ts s
-changed_by marks Error file ts s = Err cause.ErrorDirective
-changed_by marks Pragma file ts s = pragma_by marks file ts s
-changed_by marks Foreign file ts s = Err cause.UnknownDirective
-changed_by marks Unknown file ts s = Err cause.UnknownDirective
-changed_by marks _ file ts s = Ok s
+abbrev pub changed_by : (most : Option ℕ) → (marks : Option Place) → DirectiveKind → ℕ → List Tok → State → Result State Cause
+changed_by most marks Define file ts s = define_by ts s
+changed_by most marks Undef file ts s = undef_by ts s
+changed_by most marks Error file ts s = Err cause.ErrorDirective
+changed_by most marks Pragma file ts s = pragma_by most marks file ts s
+changed_by most marks Foreign file ts s = Err cause.UnknownDirective
+changed_by most marks Unknown file ts s = Err cause.UnknownDirective
+changed_by most marks _ file ts s = Ok s

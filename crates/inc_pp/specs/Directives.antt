@@ -23,7 +23,7 @@ pub use Rattle.inc_pp.specs.Poison.{line_asked, names_poison, poisoned_by}
 pub use Rattle.inc_pp.specs.Pragmas.{names_once, put_pragma, is_stacking, restacked}
 use Rattle.inc_text.specs.Languages.{is_gnu}
 use Rattle.inc_pp.specs.OpenCalls.{called_name}
-use Rattle.inc_pp.specs.Runs.{expanded, marks_in, put_out, released}
+use Rattle.inc_pp.specs.Runs.{bounded, expanded, marks_in, put_out, released}
 use Rattle.inc_pp.specs.Sections.{operands}
 use Rattle.inc_pp.specs.Tasks.{File, State, Here, Halt, caused, halting}
 
@@ -99,13 +99,14 @@ with_system language ts h =
     record h { standing = record h.standing { is_system = h.standing.is_system || (nat_lt 0 h.standing.level && names_system language ts) } }
 
 -- `#pragma once` has its file read once; `#pragma push_macro` puts a definition aside, and `#pragma pop_macro` takes it back; `#pragma GCC poison`
--- takes names away; any other pragma is put out as it is, or not at all
+-- takes names away; any other pragma is put out as it is, or not at all, if the text of what is put out is not too long then
 abbrev pub after_pragma : File → FileLine → State → Here → Result State Cause
 after_pragma f l s h =
     if names_once (operands l) then Ok (with_once f.index s) else
     if is_stacking s.table.language (operands l) then (restacked (operands l) s.table >>= λ t. Ok (with_table t s)) else
     if names_poison s.table.language (operands l) then poisoned_by (drop 2 (operands l)) s
-    else Ok (put_out (put_pragma s.table.language (marks_in f h) (line_of_tokens l.tokens) l.tokens) s)
+    else bounded f.task.settings.most_output
+    (put_out (put_pragma s.table.language (marks_in f h) (line_of_tokens l.tokens) l.tokens) s)
 
 -- what a directive changes that is no include and of no section; `#warning`, `#ident`, `#sccs` and `#` alone change nothing
 abbrev pub changed : DirectiveKind → File → FileLine → State → Here → Result (State × Here) Cause

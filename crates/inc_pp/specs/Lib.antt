@@ -20,6 +20,7 @@ pub mod Printed
 pub mod Labels
 pub mod OutTokens
 pub mod Operators
+pub mod Measures
 pub mod Stops
 pub mod Steps
 pub mod DirectiveSteps

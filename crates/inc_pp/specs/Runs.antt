@@ -1,8 +1,9 @@
 -- Runs of text lines (ISO/IEC 9899:2018, 6.10.3). A choice of this profile: the text lines between two directives are expanded as one
 -- list, in which a new-line is white space, and are put out as one line, if no pragma operator and no line marker parts them. In GNU C a call that is open
 -- at the end of a run waits for the next ones; what is before it is put out. A directive that includes, numbers lines or changes the macro that is called does not
--- let it wait on, nor does the end of the file.
-use Rattle.std.specs.Prelude.{ℕ, ◌==◌, ◌&&◌, ◌||◌, Bool, true, false, List, [], ◌∷◌, ◌++◌, Option, Some, None, Result, Ok, Err, if◌then◌else◌, map, nat_lt, unwrap_or}
+-- let it wait on, nor does the end of the file. Where the settings limit the text that is put out, a run with which it is longer is a stop at its first line:
+-- nothing of it is put out.
+use Rattle.std.specs.Prelude.{ℕ, ◌==◌, ◌&&◌, ◌||◌, Bool, true, false, List, [], ◌∷◌, ◌++◌, Option, Some, None, Result, Ok, Err, if◌then◌else◌, length, map, nat_lt, unwrap_or}
 use Rattle.inc_text.specs.declared.languages.Language.{Language}
 use Rattle.inc_text.specs.Languages.{is_gnu}
 use Rattle.inc_token.specs.TokenLines.{Tok}
@@ -15,11 +16,13 @@ use Rattle.inc_expand.specs.declared.places.Mode.TheVariants.{Plain}
 use Rattle.inc_expand.specs.Expansion.{Item, Meter, Place, expansion}
 use Rattle.inc_expand.specs.Openings.{Held, held_source, opening}
 use Rattle.inc_pp.specs.declared.causes.Cause.{Cause}
-use Rattle.inc_pp.specs.declared.causes.Cause.TheVariants.{Expand}
+use Rattle.inc_pp.specs.declared.causes.Cause.TheVariants.{Expand, TooMuchOutput}
 use Rattle.inc_pp.specs.LineMarkers.{marks_of}
 use Rattle.inc_pp.specs.OpenCalls.{first_line_in, open_behind, open_in_call, spellings}
 use Rattle.inc_pp.specs.Poison.{asked}
 use Rattle.inc_pp.specs.Pragmas.{Laid, laid}
+use Rattle.inc_pp.specs.Printed.{printed}
+use Rattle.inc_pp.specs.Settings.{is_too_much}
 use Rattle.inc_pp.specs.Tasks.{File, OutToken, State, Here, Halt, caused, halting, place_of}
 
 -- with another meter
@@ -59,16 +62,21 @@ put_laid file l s = record {
   output = s.output ++ l.tokens;
 }
 
+-- a state, if the text of what was put out is not longer than that
+abbrev pub bounded : (most : Option ℕ) → State → Result State Cause
+bounded most s = if is_too_much most (length (printed s.output)) then Err TooMuchOutput else Ok s
+
 -- the state after the tokens of a run: they are expanded, and what they give is put out
 abbrev pub run_expanded : File → Here → State → List Tok → Result State Cause
-run_expanded f h s ts = expanded f h s ts >>= λ r. laid s.table.language (marks_in f h) None r.0 >>= λ l. Ok (put_laid f.index l r.1)
+run_expanded f h s ts =
+    expanded f h s ts >>= λ r. laid s.table.language (marks_in f h) None r.0 >>= λ l. bounded f.task.settings.most_output (put_laid f.index l r.1)
 
 -- the state after what is before a call that is open at their end, those that wait first, and that call
 abbrev pub run_opened : File → Here → State → List Tok → Result (State × List Held) Cause
 run_opened f h s ts =
     caused Expand (opening (record { table = s.table; mode = Plain; place = place_of f h }) s.meter h.waiting ts) >>= λ r.
     laid s.table.language (marks_in f h) None r.0 >>= λ l.
-    Ok (put_laid f.index l (with_meter r.2 s), r.1)
+    bounded f.task.settings.most_output (put_laid f.index l (with_meter r.2 s)) >>= λ t. Ok (t, r.1)
 
 -- a call has no end
 abbrev pub is_unclosed : Cause → Bool

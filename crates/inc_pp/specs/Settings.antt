@@ -1,5 +1,5 @@
 -- What the caller of a preprocessing sets. Choices of this profile: which dates and times are taken, what an include does whose file is
--- not found, whether lines are marked, how files are called, and how much is read at most.
+-- not found, whether lines are marked, how files are called, and how much is read and put out at most.
 use Rattle.std.specs.Prelude.{ℕ, ◌==◌, ◌&&◌, ◌||◌, not, Bool, false, List, [], Option, Some, None, if◌then◌else◌, nat_le, nat_lt, codes, unwrap_or}
 use Rattle.std.specs.List.{list_all}
 use Rattle.inc_text.specs.Ascii.{quotation_mark, backslash}
@@ -8,7 +8,7 @@ use Rattle.inc_text.specs.declared.languages.Language.{Language}
 use Rattle.inc_pp.specs.declared.settings.Missing.{Missing}
 
 -- language, date and time, what an include does whose file is not found, whether lines are marked, how files are called, and how much is
--- read at most
+-- read and put out at most
 pub record Settings : Type 0 where
   -- that of all files
   pub language : Language
@@ -28,6 +28,8 @@ pub record Settings : Type 0 where
   pub dirs : List NamedDir
   -- at most so many bytes are read, those of a file that is read twice counted twice; none: any number
   pub most_read : Option ℕ
+  -- the text of what is put out has at most so many bytes; none: any number
+  pub most_output : Option ℕ
 
 -- printable ASCII other than `"` and `\`
 abbrev pub is_date_byte : ℕ → Bool
@@ -47,6 +49,7 @@ settings_of language date time timestamp missing =
       source = None;
       dirs = [];
       most_read = None;
+      most_output = None;
     }) else None
 
 -- the settings of the program
@@ -62,6 +65,7 @@ usual_settings language missing =
       source = None;
       dirs = [];
       most_read = None;
+      most_output = None;
     }
 
 -- with markers or without
@@ -80,7 +84,11 @@ found_in_settings dirs s = record s { dirs = dirs }
 abbrev pub limited_settings : (most_read : Option ℕ) → Settings → Settings
 limited_settings most_read s = record s { most_read = most_read }
 
--- so many bytes are more than may be read
+-- with this limit of the text that is put out, or none
+abbrev pub bounded_settings : (most_output : Option ℕ) → Settings → Settings
+bounded_settings most_output s = record s { most_output = most_output }
+
+-- so many bytes are more than a limit, if there is one
 abbrev pub is_too_much : (most : Option ℕ) → (bytes : ℕ) → Bool
 is_too_much None bytes = false
 is_too_much (Some most) bytes = nat_lt most bytes

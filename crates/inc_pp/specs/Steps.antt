@@ -1,5 +1,5 @@
 -- The steps of a preprocessing by what they read, whatever the file at hand.
-use Rattle.std.specs.Prelude.{Bool, not, List, Option, None, Result, Ok}
+use Rattle.std.specs.Prelude.{ℕ, Bool, not, List, ◌++◌, Option, None, Result, Ok, Err, if◌then◌else◌, length}
 use Rattle.inc_token.specs.TokenLines.{Tok}
 use Rattle.inc_directive.specs.LineKinds.{LineKind, Other}
 use Rattle.inc_directive.specs.declared.kinds.DirectiveKind.TheVariants.{Ifdef, Ifndef, Elifdef, Elifndef}
@@ -11,13 +11,14 @@ use Rattle.inc_expand.specs.Openings.{Held, opening}
 use Rattle.inc_cond.specs.Conditions.{condition}
 use Rattle.inc_cond.specs.Headers.{HeaderSearch}
 use Rattle.inc_pp.specs.declared.causes.Cause.{Cause}
-use Rattle.inc_pp.specs.declared.causes.Cause.TheVariants.{Expand, Condition}
+use Rattle.inc_pp.specs.declared.causes.Cause.TheVariants.{Expand, Condition, TooMuchOutput}
 use Rattle.inc_pp.specs.declared.conditions.Test.{Test}
 use Rattle.inc_pp.specs.declared.conditions.Test.TheVariants.{Defined, Undefined, Value}
 use Rattle.inc_pp.specs.Pragmas.{Laid, laid}
+use Rattle.inc_pp.specs.Printed.{printed}
 use Rattle.inc_pp.specs.Sections.{first_name, is_true}
-use Rattle.inc_pp.specs.Settings.{Settings, base_of}
-use Rattle.inc_pp.specs.Tasks.{Here, caused}
+use Rattle.inc_pp.specs.Settings.{Settings, base_of, is_too_much}
+use Rattle.inc_pp.specs.Tasks.{OutToken, Here, caused}
 
 -- where the tokens of a file are that is read under these settings
 abbrev pub place_under : Settings → Here → Place
@@ -49,6 +50,22 @@ open_expansion_at place table meter waiting ts = caused Expand (opening (record 
 abbrev pub opened_at : (marks : Option Place) → Place → Table → Meter → List Held → List Tok → Result (Laid × List Held × Meter) Cause
 opened_at marks place table meter waiting ts =
     open_expansion_at place table meter waiting ts >>= λ r. laid table.language marks None r.0 >>= λ l. Ok (l, r.1, r.2)
+
+-- what is put out after other tokens, if the text of all is not too long
+abbrev pub short : (most : Option ℕ) → (already : List OutToken) → Laid → Result Laid Cause
+short most already l = if is_too_much most (length (printed (already ++ l.tokens))) then Err TooMuchOutput else Ok l
+
+-- the same of tokens that may have a fault
+abbrev pub short_of : (most : Option ℕ) → (already : List OutToken) → Result Laid Cause → Result Laid Cause
+short_of most already r = r >>= short most already
+
+-- the same with the meter after it
+abbrev pub fitting : (most : Option ℕ) → (already : List OutToken) → Result (Laid × Meter) Cause → Result (Laid × Meter) Cause
+fitting most already r = r >>= λ x. short most already x.0 >>= λ l. Ok (l, x.1)
+
+-- the same before a call that is open
+abbrev pub fitting_open : (most : Option ℕ) → (already : List OutToken) → Result (Laid × List Held × Meter) Cause → Result (Laid × List Held × Meter) Cause
+fitting_open most already r = r >>= λ x. short most already x.0 >>= λ l. Ok (l, x.1, x.2)
 
 -- what a line of this kind asks
 abbrev pub test_of : LineKind → Test

@@ -44,6 +44,9 @@ pub enum Cause {
     /// More bytes would be read than the settings allow. The stop is at the include directive that leads to the file, or at the first
     /// line of the source.
     TooMuchRead,
+    /// The text of what is put out would be longer than the settings allow. The stop is at the first of the text lines with which it
+    /// is, or at the pragma.
+    TooMuchOutput,
 }
 
 /// Where and why a preprocessing stopped.

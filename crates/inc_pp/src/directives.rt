@@ -9,10 +9,10 @@ ghost use Rattle.inc_expand.specs.Items.{seen_item};
 ghost use Rattle.inc_expand.specs.Places.{place_value};
 ghost use Rattle.inc_macro.specs.Tables.{table_of};
 ghost use Rattle.inc_pp.specs.Directives as spec;
-ghost use Rattle.inc_pp.specs.DirectiveSteps.{changed_by, define_by, pragma_by, renumbered_at, restacked_by, undef_by};
+ghost use Rattle.inc_pp.specs.DirectiveSteps.{changed_by, define_by, pragma_by, put_by, renumbered_at, restacked_by, undef_by};
 ghost use Rattle.inc_pp.specs.Includes.{included, most_reads};
 ghost use Rattle.inc_pp.specs.Pragmas.{stacked};
-ghost use Rattle.inc_pp.specs.Runs.{put_out, with_meter};
+ghost use Rattle.inc_pp.specs.Runs.{with_meter};
 ghost use Rattle.inc_pp.specs.StateViews.{state_of};
 ghost use Rattle.inc_pp.specs.Sections.{operands};
 ghost use Rattle.inc_pp.specs.Steps.{place_under};
@@ -28,7 +28,7 @@ use crate::line_numbers::{Here, Numbering, renumbered};
 use crate::lines::{after_first, first_line, operands};
 use crate::poison::names_poison;
 use crate::pragmas::{is_stacking, names_once, put_tokens, stacked_name};
-use crate::settings::Settings;
+use crate::settings::{Settings, is_too_much};
 use crate::states::State;
 use inc_directive::{DirectiveKind, FileLines, LineKind};
 use inc_expand::{Budget, Item, Place};
@@ -151,7 +151,8 @@ impl State {
             kind => {
                 let tokens = lines.line(self.alloc, i)?;
                 let language = self.macros.language();
-                self.change(kind, &tokens, file, &here.marks(settings))?;
+                let marks = here.marks(settings);
+                self.change(kind, &tokens, file, &marks, settings.most_output())?;
                 here.obey(kind, language, &tokens);
                 Ok(())
             }
@@ -195,24 +196,26 @@ impl State {
     }
 
     /// What a directive changes that is no include, no `#line` and of no section. `marks`: where the tokens are, if lines are marked.
+    /// `most`: how many bytes the text of all that is put out has at most, if there is a limit.
     fn change(
         &mut self,
         kind: DirectiveKind,
         tokens: &[Token<'_>],
         file: FileId,
         marks: &Option<Place<'_>>,
+        most: Option<u64>,
     ) -> Result<(), Break>
-        ensures done { OnOk result (changed_by (option_map place_value marks.now) kind file (map seen tokens.now) (state_of self.old)
+        ensures done { OnOk result (changed_by most (option_map place_value marks.now) kind file (map seen tokens.now) (state_of self.old)
             ≡ Ok (state_of self.new)) }
         ensures reads { (state_of self.new).reads ≡ (state_of self.old).reads }
         ensures stop { IfErr result (λ fault. IfStop fault (λ line cause. (line ≡ line_of_tokens (map seen tokens.now))
-            × (changed_by (option_map place_value marks.now) kind file (map seen tokens.now) (state_of self.old) ≡ Err cause)
+            × (changed_by most (option_map place_value marks.now) kind file (map seen tokens.now) (state_of self.old) ≡ Err cause)
             × (state_of self.new ≡ state_of self.old))) }
     {
         match kind {
             DirectiveKind::Define => self.define(tokens),
             DirectiveKind::Undef => self.undef(tokens),
-            DirectiveKind::Pragma => self.obey_pragma(tokens, file, marks),
+            DirectiveKind::Pragma => self.obey_pragma(tokens, file, marks, most),
             DirectiveKind::Error => Err(Break::Stop {
                 line: first_line(tokens),
                 cause: Cause::ErrorDirective,
@@ -269,12 +272,13 @@ impl State {
         tokens: &[Token<'_>],
         file: FileId,
         marks: &Option<Place<'_>>,
+        most: Option<u64>,
     ) -> Result<(), Break>
-        ensures done { OnOk result (pragma_by (option_map place_value marks.now) file (map seen tokens.now) (state_of self.old)
+        ensures done { OnOk result (pragma_by most (option_map place_value marks.now) file (map seen tokens.now) (state_of self.old)
             ≡ Ok (state_of self.new)) }
         ensures reads { (state_of self.new).reads ≡ (state_of self.old).reads }
         ensures stop { IfErr result (λ fault. IfStop fault (λ line cause. (line ≡ line_of_tokens (map seen tokens.now))
-            × (pragma_by (option_map place_value marks.now) file (map seen tokens.now) (state_of self.old) ≡ Err cause)
+            × (pragma_by most (option_map place_value marks.now) file (map seen tokens.now) (state_of self.old) ≡ Err cause)
             × (state_of self.new ≡ state_of self.old))) }
     {
         if names_once(operands(tokens)) {
@@ -289,7 +293,7 @@ impl State {
             self.obey_poison(operands(operands(tokens)), first_line(tokens))?;
             return Ok(());
         }
-        self.put_pragma(tokens, marks)?;
+        self.put_pragma(tokens, marks, most)?;
         Ok(())
     }
 
@@ -327,21 +331,31 @@ impl State {
         Ok(())
     }
 
-    /// Puts a pragma out as it is, or not at all.
+    /// Puts a pragma out as it is, or not at all. Where the text of all that is put out is too long with it, nothing is put out.
     fn put_pragma(
         &mut self,
         tokens: &[Token<'_>],
         marks: &Option<Place<'_>>,
-    ) -> Result<(), AllocError>
-        ensures done { let language = (table_of self.old.macros).language in OnOk result (state_of self.new
-            ≡ put_out (spec.put_pragma language (option_map place_value marks.now) (line_of_tokens (map seen tokens.now)) (map seen tokens.now))
-            (state_of self.old)) }
+        most: Option<u64>,
+    ) -> Result<(), Break>
+        ensures done { OnOk result (put_by most (option_map place_value marks.now) (map seen tokens.now) (state_of self.old) ≡ Ok (state_of self.new)) }
         ensures reads { (state_of self.new).reads ≡ (state_of self.old).reads }
+        ensures stop { IfErr result (λ fault. IfStop fault (λ line cause. (line ≡ line_of_tokens (map seen tokens.now))
+            × (put_by most (option_map place_value marks.now) (map seen tokens.now) (state_of self.old) ≡ Err cause)
+            × (state_of self.new ≡ state_of self.old))) }
     {
         let language = self.macros.language();
         let put = put_tokens(language, tokens);
-        self.output
-            .put_own_line(language, marks, first_line(tokens), put)?;
+        let line = first_line(tokens);
+        let already = self.output.count();
+        self.output.put_own_line(language, marks, line, put)?;
+        if is_too_much(most, self.output.text().len() as u64) {
+            self.output.truncate(already);
+            return Err(Break::Stop {
+                line,
+                cause: Cause::TooMuchOutput,
+            });
+        }
         Ok(())
     }
 }

@@ -10,12 +10,13 @@ ghost use Rattle.inc_expand.specs.Sinks.{seen_ref as seen_item_ref};
 ghost use Rattle.inc_pp.specs.OpenCalls.{open_in_call};
 ghost use Rattle.inc_pp.specs.Operators.{Grows, marks_in, outcome};
 ghost use Rattle.inc_pp.specs.Pragmas.{before, laid};
-ghost use Rattle.inc_pp.specs.Steps.{expansion_at, laid_at, open_expansion_at, opened_at};
+ghost use Rattle.inc_pp.specs.Steps.{expansion_at, fitting, fitting_open, laid_at, open_expansion_at, opened_at};
 ghost use Rattle.inc_pp.specs.Stops.{IfStop};
 ghost use Rattle.inc_pp.specs.Tasks.{OutToken, line_tokens};
 
 use crate::causes::Cause;
 use crate::faults::Break;
+use crate::measures::{check_expanded, check_items};
 use crate::operators::Operators;
 use crate::output::Output;
 use crate::waiting::Open;
@@ -72,8 +73,32 @@ pub(crate) fn expanded<'a>(
 }
 
 /// Expands tokens of text, and puts out what they give: one line, or several where pragmas are among them. It answers whether one of these
-/// has the file at hand read once. Where there is a fault, nothing is put out. `marks`: where the tokens are, if lines are marked.
+/// has the file at hand read once. Where there is a fault, or the text of all that is put out would be too long, nothing is put out.
+/// `marks`: where the tokens are, if lines are marked. `most`: how many bytes the text has at most, if there is a limit.
 pub(crate) fn put_expanded<'a>(
+    around: &Around<'a>,
+    marks: Option<Place<'a>>,
+    tokens: &[Token<'a>],
+    budget: &mut Budget,
+    output: &mut Output,
+    most: Option<u64>,
+) -> Result<bool, Break>
+    ensures done { IfOk result (λ once. (out : List OutToken) × (output.new ≡ output.old ++ out)
+        × (fitting most output.old (laid_at (option_map place_value marks.entry) (place_value around.now.place) (table_of around.now.macros.now) budget.old (map seen tokens.now))
+        ≡ Ok (record { tokens = out; once = once }, budget.new))) }
+    ensures stop { IfErr result (λ fault. IfStop fault (λ line cause. (line ≡ around.now.line)
+        × (output.new ≡ output.old)
+        × (fitting most output.old (laid_at (option_map place_value marks.entry) (place_value around.now.place) (table_of around.now.macros.now) budget.old (map seen tokens.now))
+        ≡ Err cause))) }
+    ensures left { OnErr result (budget.new ≡ budget.old) }
+{
+    check_expanded(around, marks, tokens, budget, output, most)?;
+    let once = put_unbounded(around, marks, tokens, budget, output)?;
+    Ok(once)
+}
+
+/// The same without a limit.
+fn put_unbounded<'a>(
     around: &Around<'a>,
     marks: Option<Place<'a>>,
     tokens: &[Token<'a>],
@@ -213,7 +238,8 @@ fn operated<'a>(
 }
 
 /// Expands tokens that wait and those of text lines as one list, up to the call that is open at its end, and puts out what is before that. It answers
-/// whether a pragma has the file at hand read once, and gives the call. Where there is a fault, nothing is put out.
+/// whether a pragma has the file at hand read once, and gives the call. Where there is a fault, or the text of all that is put out would be too
+/// long, nothing is put out.
 pub(crate) fn put_open<'a>(
     around: &Around<'a>,
     marks: Option<Place<'a>>,
@@ -221,21 +247,24 @@ pub(crate) fn put_open<'a>(
     tokens: &[Token<'a>],
     budget: &mut Budget,
     output: &mut Output,
+    most: Option<u64>,
 ) -> Result<(bool, Open), Break>
     ensures done { IfOk result (λ r. (out : List OutToken) × (output.new ≡ output.old ++ out)
-        × (opened_at (option_map place_value marks.entry) (place_value around.now.place) (table_of around.now.macros.now) budget.old
-        (map seen_ref waiting.now) (map seen tokens.now)
+        × (fitting_open most output.old (opened_at (option_map place_value marks.entry) (place_value around.now.place) (table_of around.now.macros.now) budget.old
+        (map seen_ref waiting.now) (map seen tokens.now))
         ≡ Ok (record { tokens = out; once = r.0 }, r.1.waiting, budget.new))) }
     ensures deep { IfOk result (λ r. r.1.deep ≡ open_in_call r.1.waiting) }
     ensures stop { IfErr result (λ fault. IfStop fault (λ line cause. (line ≡ around.now.line)
         × (output.new ≡ output.old)
-        × (opened_at (option_map place_value marks.entry) (place_value around.now.place) (table_of around.now.macros.now) budget.old
-        (map seen_ref waiting.now) (map seen tokens.now) ≡ Err cause))) }
+        × (fitting_open most output.old (opened_at (option_map place_value marks.entry) (place_value around.now.place) (table_of around.now.macros.now) budget.old
+        (map seen_ref waiting.now) (map seen tokens.now)) ≡ Err cause))) }
     ensures left { OnErr result (budget.new ≡ budget.old) }
 {
     let mut left = *budget;
     let (items, held) = opened(around, waiting, tokens, &mut left)?;
-    let once = put_items(around, marks, &items, output)?;
+    let given = &*items;
+    check_items(around, marks, given, output, most)?;
+    let once = put_items(around, marks, given, output)?;
     *budget = left;
     Ok((once, held))
 }
@@ -331,7 +360,7 @@ fn take_all(items: &[Item<'_>], operators: &mut Operators<'_>) -> Result<(), All
 }
 
 /// An expanded token, lent.
-fn item_ref<'t>(item: &'t Item<'_>) -> ItemRef<'t>
+pub(crate) fn item_ref<'t>(item: &'t Item<'_>) -> ItemRef<'t>
     ensures { seen_item_ref result ≡ seen_item item.now }
 {
     ItemRef {

@@ -22,6 +22,7 @@ mod line_numbers;
 mod line_steps;
 mod lines;
 mod literals;
+mod measures;
 pub mod memory_laws;
 mod open_calls;
 mod operators;

@@ -309,7 +309,7 @@ fn first_line<'l, 'a>(lines: &'l Lines<'a>) -> &'l [Token<'a>]
 }
 
 /// A token of a source as one of an expansion.
-fn source_ref<'t>(token: &'t Token<'_>) -> ItemRef<'t>
+pub(crate) fn source_ref<'t>(token: &'t Token<'_>) -> ItemRef<'t>
     ensures { seen_ref result ≡ item_of_source (seen token.now) }
 {
     ItemRef {

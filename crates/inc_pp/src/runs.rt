@@ -261,6 +261,7 @@ impl State {
             tokens,
             &mut self.budget,
             &mut self.output,
+            settings.most_output(),
         )?;
         self.note_once(file, once)?;
         Ok(held)
@@ -329,7 +330,14 @@ impl State {
             line: first_line(tokens),
         };
         let marks = here.marks(settings);
-        let once = put_expanded(&around, marks, tokens, &mut self.budget, &mut self.output)?;
+        let once = put_expanded(
+            &around,
+            marks,
+            tokens,
+            &mut self.budget,
+            &mut self.output,
+            settings.most_output(),
+        )?;
         self.note_once(file, once)?;
         Ok(())
     }

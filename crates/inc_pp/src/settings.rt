@@ -17,7 +17,7 @@ pub enum Missing {
 }
 
 /// Language, date and time, what an include directive does whose header is not found, whether lines are marked, how files are called, and
-/// how much is read at most.
+/// how much is read and put out at most.
 #[derive(Drop)]
 pub struct Settings<'n> {
     language: Language,
@@ -29,6 +29,7 @@ pub struct Settings<'n> {
     source: Option<&'n [u8]>,
     dirs: &'n [NamedDir<'n>],
     most_read: Option<u64>,
+    most_output: Option<u64>,
 }
 
 impl<'n> Model for Settings<'n> {
@@ -47,6 +48,7 @@ impl<'n> Model for Settings<'n> {
       source = option_map (λ n. n.now) s.source;
       dirs = s.dirs.now;
       most_read = s.most_read;
+      most_output = s.most_output;
     } };
 }
 
@@ -75,10 +77,11 @@ impl<'n> Settings<'n> {
             source: None,
             dirs: &[],
             most_read: None,
+            most_output: None,
         })
     }
 
-    /// The date `Jan  1 1970`, the time `00:00:00` and the timestamp of both, without line markers, names and a limit.
+    /// The date `Jan  1 1970`, the time `00:00:00` and the timestamp of both, without line markers, names and limits.
     pub fn usual(language: Language, missing: Missing) -> Settings<'n>
         ensures { result ≡ spec.usual_settings language missing }
     {
@@ -92,6 +95,7 @@ impl<'n> Settings<'n> {
             source: None,
             dirs: &[],
             most_read: None,
+            most_output: None,
         }
     }
 
@@ -102,12 +106,14 @@ impl<'n> Settings<'n> {
         source: Option<&'n [u8]>,
         dirs: &'n [NamedDir<'n>],
         most_read: Option<u64>,
+        most_output: Option<u64>,
     ) -> Settings<'n>
         ensures { result ≡ record self.now {
           has_markers = has_markers;
           source = option_map (λ n. n.now) source.entry;
           dirs = dirs.now;
           most_read = most_read;
+          most_output = most_output;
         } }
     {
         Settings {
@@ -120,6 +126,7 @@ impl<'n> Settings<'n> {
             source,
             dirs,
             most_read,
+            most_output,
         }
     }
 
@@ -128,7 +135,13 @@ impl<'n> Settings<'n> {
     pub fn with_markers(&self, has_markers: bool) -> Settings<'n>
         ensures { result ≡ spec.marked_settings has_markers self.now }
     {
-        self.with(has_markers, self.source, self.dirs, self.most_read)
+        self.with(
+            has_markers,
+            self.source,
+            self.dirs,
+            self.most_read,
+            self.most_output,
+        )
     }
 
     /// The same, with the path by which the source is named: GNU C calls it and the headers beside it by that. Without one it is called
@@ -136,7 +149,13 @@ impl<'n> Settings<'n> {
     pub fn with_source(&self, source: &'n [u8]) -> Settings<'n>
         ensures { result ≡ spec.sourced_settings source.now self.now }
     {
-        self.with(self.has_markers, Some(source), self.dirs, self.most_read)
+        self.with(
+            self.has_markers,
+            Some(source),
+            self.dirs,
+            self.most_read,
+            self.most_output,
+        )
     }
 
     /// The same, with the directories of the include path, one for each that the project has, in its order. GNU C calls the headers
@@ -145,7 +164,13 @@ impl<'n> Settings<'n> {
     pub fn with_dirs(&self, dirs: &'n [NamedDir<'n>]) -> Settings<'n>
         ensures { result ≡ spec.found_in_settings dirs.now self.now }
     {
-        self.with(self.has_markers, self.source, dirs, self.most_read)
+        self.with(
+            self.has_markers,
+            self.source,
+            dirs,
+            self.most_read,
+            self.most_output,
+        )
     }
 
     /// The same, with a limit of the bytes that are read, or without one: those of the source and of each file that it includes, of one
@@ -153,7 +178,27 @@ impl<'n> Settings<'n> {
     pub fn with_most_read(&self, most_read: Option<u64>) -> Settings<'n>
         ensures { result ≡ spec.limited_settings most_read self.now }
     {
-        self.with(self.has_markers, self.source, self.dirs, most_read)
+        self.with(
+            self.has_markers,
+            self.source,
+            self.dirs,
+            most_read,
+            self.most_output,
+        )
+    }
+
+    /// The same, with a limit of the bytes of the text that is put out, or without one. Where a run of text lines or a pragma passes it, the
+    /// preprocessing stops, and puts out nothing of them.
+    pub fn with_most_output(&self, most_output: Option<u64>) -> Settings<'n>
+        ensures { result ≡ spec.bounded_settings most_output self.now }
+    {
+        self.with(
+            self.has_markers,
+            self.source,
+            self.dirs,
+            self.most_read,
+            most_output,
+        )
     }
 
     /// The language.
@@ -219,10 +264,14 @@ impl<'n> Settings<'n> {
     pub(crate) fn is_too_much(&self, bytes: u64) -> bool
         ensures { result ≡ spec.is_too_much self.now.most_read bytes }
     {
-        match self.most_read {
-            Some(most) => bytes > most,
-            None => false,
-        }
+        is_too_much(self.most_read, bytes)
+    }
+
+    /// How many bytes the text of what is put out has at most, if there is a limit.
+    pub(crate) fn most_output(&self) -> Option<u64>
+        ensures { result ≡ self.now.most_output }
+    {
+        self.most_output
     }
 
     /// The directories of the include path.
@@ -230,6 +279,16 @@ impl<'n> Settings<'n> {
         ensures { result.now ≡ self.now.dirs }
     {
         self.dirs
+    }
+}
+
+/// Whether so many bytes are more than a limit, if there is one.
+pub(crate) fn is_too_much(most: Option<u64>, bytes: u64) -> bool
+    ensures { result ≡ spec.is_too_much most bytes }
+{
+    match most {
+        Some(most) => bytes > most,
+        None => false,
     }
 }
 

@@ -39,6 +39,7 @@ pub mod PatchLemmas
 pub mod EdgeEnds
 pub mod UnresolvedTexts
 pub mod KeptDirectives
+pub mod NamedReasonLemmas
 pub mod NamedLemmas
 pub mod ChainBlocks
 pub mod JoinedTexts

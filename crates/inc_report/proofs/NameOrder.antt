@@ -1,5 +1,5 @@
 -- The directives of a file by their lines, which rise.
-use Rattle.std.proofs.Common.{◌≡◌, ◌⊎◌, set, ℕ, zero, suc, ◌<◌, ◌≤◌, List, [], ◌∷◌, Option, Some, None, length, map, get_or, inl, inr, refl, sym, ap, subst, ◌∙◌, arith}
+use Rattle.std.proofs.Common.{◌≡◌, ◌⊎◌, set, ℕ, zero, suc, ◌<◌, ◌≤◌, List, [], ◌∷◌, Option, Some, None, Result, Ok, Err, IfOk, length, map, get_or, inl, inr, refl, sym, ap, subst, ◌∙◌, arith}
 use Rattle.std.specs.Prelude.{replicate, slice_get}
 use Rattle.std.specs.Option.{option_map_or}
 use Rattle.std.specs.List.Sorted.{IsNonDecreasingBy, IsPartitionPoint, IsStrictlyIncreasing}
@@ -15,7 +15,7 @@ use Rattle.inc_text.specs.declared.languages.Language.{Language}
 use Rattle.inc_lookup.specs.declared.projects.DirectiveId.{DirectiveId}
 use Rattle.inc_report.specs.DirectiveNames.{file_inclusions, kept_kind, kind_at, kind_in}
 use Rattle.inc_report.specs.KeptFiles.{Kept, kept_at}
-use Rattle.inc_report.specs.NameTables.{AreNames, known_at, seen_named}
+use Rattle.inc_report.specs.NameTables.{AreNames, known_at, seen_kept, seen_named}
 use Rattle.inc_report.specs.declared.directive_names.NamedLine.{NamedLine}
 
 ---- the directive on a line
@@ -150,3 +150,8 @@ pub kind_known : (language : Language) (kept : Kept) (files lent : List (Option 
 kind_known language kept files lent place d ds bytes are same at there known =
     kind_kept language kept d ds bytes (sym there)
     (are d.file ds bytes (ap (λ (fs : List (Option (List Directive))). known_at fs d.file) (sym same) ∙ ap (known_at lent) (sym at) ∙ sym known) (sym there))
+
+-- a line that is kept by itself
+pub line_if : {E : Type 0} (r : Result NamedLine E) (d : Directive) (kind : LineKind) → IfOk r (λ n. seen_named n ≡ d) → d.kind ≡ kind → IfOk r (λ n. seen_kept n ≡ kind)
+line_if (Ok n) d kind is same = ap (λ (x : Directive). x.kind) is ∙ same
+line_if (Err fault) d kind is same = tt

@@ -1,5 +1,5 @@
 -- What is printed in which directives stand as they are written, by what was read and kept, and what that promises.
-use Rattle.std.proofs.Common.{◌≡◌, ◌≢◌, ℕ, ◌<◌, Bool, true, false, ◌==◌, List, [], ◌∷◌, ◌++◌, Option, Some, None, Result, Ok, length, get_or, is_some, inl, inr, refl, sym, ap, ap₂, subst, ◌∙◌, arith}
+use Rattle.std.proofs.Common.{◌≡◌, ◌≢◌, ◌⊎◌, ℕ, ◌<◌, Bool, true, false, ◌==◌, List, [], ◌∷◌, ◌++◌, Option, Some, None, Result, Ok, length, get_or, is_some, inl, inr, refl, sym, ap, ap₂, subst, ◌∙◌, arith}
 use Rattle.std.specs.Prelude.{map, option_and_then, replicate, IsTrue}
 use Rattle.std.specs.List.{All, list_any}
 use Rattle.std.proofs.lemmas.Bool.{eqb-false, or_parts}
@@ -29,11 +29,13 @@ use Rattle.inc_report.specs.JsonDirectives.{directive_text}
 use Rattle.inc_report.specs.JsonRefusals.{mark_items, refusal_json, refusal_object, stray_item}
 use Rattle.inc_report.specs.KeptFiles.{Fits, Kept, OfKept, keeps, kept_at}
 use Rattle.inc_report.specs.Known.{IsKnown}
+use Rattle.inc_report.specs.NameTables.{NameSource}
 use Rattle.inc_report.specs.NamedHeadline.{HasGraph, NamedCutHeadline, NamedHeadline, NamedIsFixed, NamedKeepsHeadersOut}
-use Rattle.inc_report.specs.NamedText.{IsHinderedKept, IsInAnyFormat, IsInFormat, IsNamedAs, IsNamedBy, IsNamedKept, IsNamedOf, IsObject, IsReport, IsReportOf, IsStrictKept, IsStrictOf, about, answer_document, answer_json, answer_lines, answer_text, command_name, printed_answer}
+use Rattle.inc_report.specs.NamedReasons.{named_reasons}
+use Rattle.inc_report.specs.NamedText.{IsHinderedKept, IsInAnyFormat, IsInFormat, IsNamedAs, IsNamedBy, IsNamedKept, IsNamedOf, IsOfLayout, IsReport, IsReportOf, IsStrictKept, IsStrictOf, about, answer_document, answer_json, answer_lines, answer_text, blocked_as, command_name, printed_answer, reason_in, refused_text}
 use Rattle.inc_report.specs.Printed.{Printed, answered, end_of, reached_kind, refused_for}
 use Rattle.inc_report.specs.Questions.{Answer, IsAnswerBy}
-use Rattle.inc_report.specs.Refusals.{Blocked, NotFound, Refusal, refusal, refusal_for}
+use Rattle.inc_report.specs.Refusals.{Blocked, NotFound, Refusal, refusal, refusal_for, refusal_text}
 use Rattle.inc_report.specs.Terms.{Question, Limits, named_directives, setting_in}
 use Rattle.inc_report.specs.Strictness.{Strict, asked_strays_of, not_found, open_strays_of, stray_reasons}
 use Rattle.inc_report.specs.Told as report
@@ -58,6 +60,7 @@ use Rattle.inc_report.proofs.JsonKept.{AreSame, cut_same, fixed_same, graph_same
 use Rattle.inc_report.proofs.KeptDirectives.{cut_kept, fixed_kept, links_kept, who_kept, why_kept}
 use Rattle.inc_report.proofs.KeptLemmas.{fits_given, fits_unread, holds_inner, kept_given}
 use Rattle.inc_report.proofs.KeptOut.{answered_cut_keeps_headers_out, of_names_once}
+use Rattle.inc_report.proofs.NamedReasonLemmas.{reasons_same}
 use Rattle.inc_report.proofs.QuestionLemmas.{answer_all}
 use Rattle.inc_report.proofs.StrictLemmas.{strays_all, unless_none, unless_some}
 use Rattle.inc_report.proofs.UnresolvedTexts.{blocker_in_text, missing_in_text}
@@ -111,6 +114,24 @@ module _ (language : Language) (kept : Kept) (layout : Layout) (listing : Listin
         ap (λ (items : List (List ℕ)). refusal_object command (Blocked layout g.blockers) items)
         (items_same layout g (kept_kind language kept) (kind_of language listing) g.blockers all_same.blockers)
 
+    -- so is the refusal by them, in any format
+    refused_same : (form : NamedForm) → refused_text form (kept_kind language kept) (Blocked layout g.blockers) ≡ refused_text form (kind_of language listing) (Blocked layout g.blockers)
+    refused_same form = by form.format
+      where
+        by : (f : Format)
+            → refused_text (record form { format = f }) (kept_kind language kept) (Blocked layout g.blockers) ≡ refused_text (record form { format = f }) (kind_of language listing) (Blocked layout g.blockers)
+        by Gcc = refl
+        by Json = blocked_same (command_name form.asked)
+        by Dot = refl
+
+    -- with its reasons
+    pub blockers_same : (form : NamedForm) (q : Question)
+        → refused_for (named_reasons q.language q.undefined (kept_kind language kept) layout g.blockers) (refused_text form (kept_kind language kept) (Blocked layout g.blockers))
+        ≡ refused_for (named_reasons q.language q.undefined (kind_of language listing) layout g.blockers) (refused_text form (kind_of language listing) (Blocked layout g.blockers))
+    blockers_same form q =
+        ap₂ (λ (reasons text : List ℕ). refused_for reasons text)
+        (reasons_same (kept_kind language kept) (kind_of language listing) q.language q.undefined layout g.blockers all_same.blockers) (refused_same form)
+
     -- and so are those that are not found
     pub strays_same : (command : List ℕ) (ms : List Missing) → All (λ (m : Missing). IsTrue (is_some (kept_at kept m.file))) ms
         → refusal_json command (kept_kind language kept) (NotFound layout ms) ≡ refusal_json command (kind_of language listing) (NotFound layout ms)
@@ -158,40 +179,39 @@ module _ (language : Language) (kept : Kept) (layout : Layout) (listing : Listin
 
 ---- formats
 
--- what is no object is as text
-pub text_format : (form : NamedForm) (kind : DirectiveId → LineKind) (p : Printed) → form.format ≢ Json → IsInFormat form kind p p
-text_format form kind p other = by form.format other
+-- an answer stays
+answer_format : (form : NamedForm) (q : Question) (layout : Layout) (kind : DirectiveId → LineKind) (p : Printed) → p.end.kind ≢ Refused → IsInFormat form q layout kind p p
+answer_format form q layout kind p stated = inr (stated, refl)
+
+-- what is no refusal is what would be printed as text
+plain_format : (form : NamedForm) (q : Question) (layout : Layout) (kind : DirectiveId → LineKind) (plain p : Printed) → p.end.kind ≢ Refused → IsInFormat form q layout kind plain p → p ≡ plain
+plain_format form q layout kind plain p stated is =
+    elim is [ inl r ↦ absurd (stated (ap (λ (x : Printed). x.end.kind) r.4)) | inr same ↦ same.1 ]
+
+-- a format of texts
+pub no_object : (f : Format) → (f ≡ Gcc) ⊎ (f ≡ Dot) → f ≢ Json
+no_object Gcc is same = cc
+no_object Dot is same = cc
+no_object Json (inl other) same = cc
+no_object Json (inr other) same = cc
+
+-- a refusal as a text
+pub as_text : (form : NamedForm) (kind : DirectiveId → LineKind) (r : Refusal) → form.format ≢ Json → refused_text form kind r ≡ refusal_text r
+as_text form kind r other = by form.format other
   where
-    by : (f : Format) → f ≢ Json → IsInFormat (record form { format = f }) kind p p
+    by : (f : Format) → f ≢ Json → refused_text (record form { format = f }) kind r ≡ refusal_text r
     by Gcc other = refl
     by Json other = absurd (other refl)
     by Dot other = refl
 
-pub json_format : (form : NamedForm) (kind : DirectiveId → LineKind) (plain p : Printed) → form.format ≡ Json → IsObject form.asked kind plain p → IsInFormat form kind plain p
-json_format form kind plain p is object = by form.format is
+-- and as an object
+pub as_object : (form : NamedForm) (kind : DirectiveId → LineKind) (r : Refusal) → form.format ≡ Json → refused_text form kind r ≡ refusal_json (command_name form.asked) kind r
+as_object form kind r is = by form.format is
   where
-    by : (f : Format) → f ≡ Json → IsInFormat (record form { format = f }) kind plain p
+    by : (f : Format) → f ≡ Json → refused_text (record form { format = f }) kind r ≡ refusal_json (command_name form.asked) kind r
     by Gcc same = cc
-    by Json same = object
+    by Json same = refl
     by Dot same = cc
-
--- an answer stays
-answer_format : (form : NamedForm) (kind : DirectiveId → LineKind) (p : Printed) → p.end.kind ≢ Refused → IsInFormat form kind p p
-answer_format form kind p stated = by form.format
-  where
-    by : (f : Format) → IsInFormat (record form { format = f }) kind p p
-    by Gcc = refl
-    by Json = inr (stated, refl)
-    by Dot = refl
-
--- what is no refusal is what would be printed as text
-plain_format : (form : NamedForm) (kind : DirectiveId → LineKind) (plain p : Printed) → p.end.kind ≢ Refused → IsInFormat form kind plain p → p ≡ plain
-plain_format form kind plain p stated is = by form.format is
-  where
-    by : (f : Format) → IsInFormat (record form { format = f }) kind plain p → p ≡ plain
-    by Gcc same = same
-    by Json object = elim object [ inl r ↦ absurd (stated (ap (λ (q : Printed). q.end.kind) r.3)) | inr same ↦ same.1 ]
-    by Dot same = same
 
 -- the object of a refusal that names directives by marks
 pub object_of_marks : (command : List ℕ) (kind : DirectiveId → LineKind) (r : declared.Refusal) → refusal_object command (seen_refusal r) (mark_items (seen_refusal r)) ≡ refusal_json command kind (seen_refusal r)
@@ -206,14 +226,66 @@ object_of_marks command kind refused.TooLong = refl
 object_of_marks command kind (refused.NoSuchCost path line) = refl
 object_of_marks command kind (refused.CostTwice path line) = refl
 
--- it is printed where the refusal would be as text
-pub object_of_refusal : (asked : Asked) (kind : DirectiveId → LineKind) (reason : List ℕ) (r : declared.Refusal) (p : Printed)
-    → p ≡ refused_for reason (refusal_object (command_name asked) (seen_refusal r) (mark_items (seen_refusal r))) → IsObject asked kind (refusal_for reason (seen_refusal r)) p
-object_of_refusal asked kind reason r p is = inl (reason, seen_refusal r, refl, is ∙ ap (refused_for reason) (object_of_marks (command_name asked) kind r))
+-- a refusal that names no directives of the layout
+own_seen : (layout : Layout) (r : declared.Refusal) → IsOfLayout layout (seen_refusal r)
+own_seen layout refused.NoSuchSource = tt
+own_seen layout refused.NoSuchHeader = tt
+own_seen layout (refused.BadFile path line) = tt
+own_seen layout refused.TooManyDirectives = tt
+own_seen layout (refused.NoSuchDirective path line) = tt
+own_seen layout (refused.Malformed line) = tt
+own_seen layout (refused.BadDefinition index fault) = tt
+own_seen layout refused.TooLong = tt
+own_seen layout (refused.NoSuchCost path line) = tt
+own_seen layout (refused.CostTwice path line) = tt
+
+-- has one reason in all formats
+reason_seen : (q : Question) (kind : DirectiveId → LineKind) (reason : List ℕ) (r : declared.Refusal) → reason ≡ reason_in q kind reason (seen_refusal r)
+reason_seen q kind reason refused.NoSuchSource = refl
+reason_seen q kind reason refused.NoSuchHeader = refl
+reason_seen q kind reason (refused.BadFile path line) = refl
+reason_seen q kind reason refused.TooManyDirectives = refl
+reason_seen q kind reason (refused.NoSuchDirective path line) = refl
+reason_seen q kind reason (refused.Malformed line) = refl
+reason_seen q kind reason (refused.BadDefinition index fault) = refl
+reason_seen q kind reason refused.TooLong = refl
+reason_seen q kind reason (refused.NoSuchCost path line) = refl
+reason_seen q kind reason (refused.CostTwice path line) = refl
+
+-- and is printed in each
+module _ (form : NamedForm) (reason : List ℕ) (r : declared.Refusal) (p : Printed) where
+  seen_in : ((kind : DirectiveId → LineKind) → p ≡ refused_for reason (refused_text form kind (seen_refusal r))) → IsInAnyFormat form (refusal_for reason (seen_refusal r)) p
+  seen_in is q layout kind =
+      inl (
+        reason,
+        seen_refusal r,
+        own_seen layout r,
+        refl,
+        is kind ∙ ap (λ (x : List ℕ). refused_for x (refused_text form kind (seen_refusal r))) (reason_seen q kind reason r),
+      )
+
+  pub seen_text : form.format ≢ Json → p ≡ refusal_for reason (seen_refusal r) → IsInAnyFormat form (refusal_for reason (seen_refusal r)) p
+  seen_text format is = seen_in (λ kind. is ∙ ap (refused_for reason) (sym (as_text form kind (seen_refusal r) format)))
+
+  pub seen_object : form.format ≡ Json → p ≡ refused_for reason (refusal_object (command_name form.asked) (seen_refusal r) (mark_items (seen_refusal r)))
+      → IsInAnyFormat form (refusal_for reason (seen_refusal r)) p
+  seen_object format is =
+      seen_in (λ kind. is ∙ ap (refused_for reason) (object_of_marks (command_name form.asked) kind r ∙ sym (as_object form kind (seen_refusal r) format)))
+
+-- the refusal by blockers, as it is made of names of directives
+module _ (form : NamedForm) (q : Question) (s : Subject) where
+  pub blocked_made : (names : NameSource) (bs : List Blocker) (reasons text : List ℕ) → names ≡ record { kept = s.files.now; language = s.language } → s.graph.now.blockers ≡ bs
+      → reasons ≡ named_reasons q.language q.undefined (kept_kind names.language names.kept) s.project.now bs → text ≡ refused_text form (kept_kind s.language s.files.now) (Blocked s.project.now bs)
+      → refused_for reasons text ≡ blocked_as form q s
+  blocked_made names bs reasons text same are by_names is =
+      ap₂ (λ (r t : List ℕ). refused_for r t)
+      (by_names ∙ ap (λ (n : NameSource). named_reasons q.language q.undefined (kept_kind n.language n.kept) s.project.now bs) same
+      ∙ ap (λ (l : List Blocker). named_reasons q.language q.undefined (kept_kind s.language s.files.now) s.project.now l) (sym are))
+      (is ∙ ap (λ (l : List Blocker). refused_text form (kept_kind s.language s.files.now) (Blocked s.project.now l)) (sym are))
 
 ---- the answer of a graph
 
-module _ (form : NamedForm) (l : Limits) (s : Subject) (held : AreGraphKept s.graph.now s.files.now) (p : Printed) where
+module _ (form : NamedForm) (q : Question) (l : Limits) (s : Subject) (held : AreGraphKept s.graph.now s.files.now) (p : Printed) where
   abbrev own : Layout
   own = s.project.now
 
@@ -234,26 +306,26 @@ module _ (form : NamedForm) (l : Limits) (s : Subject) (held : AreGraphKept s.gr
   Then asked listing = IsNamedAs asked form l s.language listing own s.graph.now p
 
   kept_as : (asked : Asked) (costed : Bool) (amounts : List ℕ) → form.asked ≡ asked → IsReport asked form costed (about_subject s) amounts p
-      → ((listing : Listing) → IsReportOf asked form costed s.language listing own s.graph.now amounts p → Then asked listing) → IsNamedKept form l s p
+      → ((listing : Listing) → IsReportOf asked form costed s.language listing own s.graph.now amounts p → Then asked listing) → IsNamedKept form q l s p
   kept_as asked costed amounts is r step = (
     p,
     λ listing laid fits. (
       subst (λ (a : Asked). Then a listing) (sym is) (step listing (report_same s.language s.files.now own listing fits s.graph.now held asked form costed amounts p r)),
-      answer_format form (kind_of s.language listing) p (stated r.0 (ap (λ (q : Printed). q.end.kind) r.2)),
+      answer_format form q own (kind_of s.language listing) p (stated r.0 (ap (λ (x : Printed). x.end.kind) r.2)),
     ),
   )
 
-  pub why_report : form.asked ≡ ask.Why → IsReport ask.Why form false (about_subject s) [] p → IsNamedKept form l s p
+  pub why_report : form.asked ≡ ask.Why → IsReport ask.Why form false (about_subject s) [] p → IsNamedKept form q l s p
   why_report is r = kept_as ask.Why false [] is r (λ listing h. h)
 
-  pub who_report : form.asked ≡ ask.Who → IsReport ask.Who form false (about_subject s) [] p → IsNamedKept form l s p
+  pub who_report : form.asked ≡ ask.Who → IsReport ask.Who form false (about_subject s) [] p → IsNamedKept form q l s p
   who_report is r = kept_as ask.Who false [] is r (λ listing h. h)
 
-  pub graph_report : form.asked ≡ ask.Graph → IsReport ask.Graph form false (about_subject s) [] p → IsNamedKept form l s p
+  pub graph_report : form.asked ≡ ask.Graph → IsReport ask.Graph form false (about_subject s) [] p → IsNamedKept form q l s p
   graph_report is r = kept_as ask.Graph false [] is r (λ listing h. h)
 
   pub cut_report : (costed : Bool) (amounts : List ℕ) → form.asked ≡ ask.Cut → costed ≡ has_costs l.costs → s.graph.now.blockers ≡ [] → marks_fault own s.graph.now l.fixed l.costs ≡ None
-      → amounts ≡ amounts_by own s.graph.now l.kept l.fixed l.costs → IsReport ask.Cut form costed (about_subject s) amounts p → IsNamedKept form l s p
+      → amounts ≡ amounts_by own s.graph.now l.kept l.fixed l.costs → IsReport ask.Cut form costed (about_subject s) amounts p → IsNamedKept form q l s p
   cut_report costed amounts is same none named fixed r =
       kept_as ask.Cut costed amounts is r
       (λ listing h. unhindered (IsReportOf ask.Cut form (has_costs l.costs) s.language listing) own s.graph.now l amounts p none named fixed
@@ -261,7 +333,7 @@ module _ (form : NamedForm) (l : Limits) (s : Subject) (held : AreGraphKept s.gr
 
   -- what hinders it
   abbrev Hindered : Printed → Type 0
-  Hindered q = Unhindered own s.graph.now.blockers (marks_refusal own s.graph.now l.fixed l.costs) (λ r. ⊥) q
+  Hindered x = Unhindered own s.graph.now.blockers (marks_refusal own s.graph.now l.fixed l.costs) (λ r. ⊥) x
 
   hindered_as : (listing : Listing) (plain : Printed) → form.asked ≡ ask.Cut → Hindered plain → IsNamedOf form l s.language listing own s.graph.now plain
   hindered_as listing plain is h =
@@ -269,93 +341,79 @@ module _ (form : NamedForm) (l : Limits) (s : Subject) (held : AreGraphKept s.gr
       (unhindered_all own s.graph.now.blockers (marks_refusal own s.graph.now l.fixed l.costs) (λ r. ⊥)
       (IsReportOf ask.Cut form (has_costs l.costs) s.language listing own s.graph.now (amounts_by own s.graph.now l.kept l.fixed l.costs)) plain (λ none. absurd none) h)
 
-  pub hindered_text : form.asked ≡ ask.Cut → form.format ≢ Json → Hindered p → IsNamedKept form l s p
-  hindered_text is format h = (p, λ listing laid fits. (hindered_as listing p is h, text_format form (kind_of s.language listing) p format))
-
-  pub hindered_object : form.asked ≡ ask.Cut → form.format ≡ Json → IsHinderedKept l s p → IsNamedKept form l s p
-  hindered_object is format h = (
-    h.0,
-    λ listing laid fits. (
-      hindered_as listing h.0 is h.1,
-      json_format form (kind_of s.language listing) h.0 p format (subst (λ (a : Asked). IsObject a (kind_of s.language listing) h.0 p) (sym is) (h.2 listing laid fits)),
-    ),
-  )
-
-  ---- the object of what hinders it
+  pub hindered : form.asked ≡ ask.Cut → IsHinderedKept form q l s p → IsNamedKept form q l s p
+  hindered is h = (h.0, λ listing laid fits. (hindered_as listing h.0 is h.1, h.2 listing laid fits))
 
   by_blockers : (bs : List Blocker) (fault : Option Refusal) → bs ≢ [] → Unhindered own bs fault (λ r. ⊥) (blocked own bs)
   by_blockers [] fault some = absurd (some refl)
   by_blockers (b ∷ bs) fault some = refl
 
-  pub blocked_object : s.graph.now.blockers ≢ [] → p ≡ refused_for (blocked_reasons own s.graph.now.blockers) (refusal_json (command_name ask.Cut) (kept_kind s.language s.files.now) (Blocked own s.graph.now.blockers))
-      → IsHinderedKept l s p
-  blocked_object some is = (
+  -- by blockers
+  pub by_all : s.graph.now.blockers ≢ [] → p ≡ blocked_as form q s → IsHinderedKept form q l s p
+  by_all some is = (
     blocked own s.graph.now.blockers,
     by_blockers s.graph.now.blockers (marks_refusal own s.graph.now l.fixed l.costs) some,
     λ listing laid fits. inl (
       blocked_reasons own s.graph.now.blockers,
       Blocked own s.graph.now.blockers,
       refl,
-      is ∙ ap (refused_for (blocked_reasons own s.graph.now.blockers)) (blocked_same s.language s.files.now own listing fits s.graph.now held (command_name ask.Cut)),
+      refl,
+      is ∙ blockers_same s.language s.files.now own listing fits s.graph.now held form q,
     ),
   )
 
-  by_marks : (bs : List Blocker) (fault : Option Refusal) (r : Refusal) → bs ≡ [] → fault ≡ Some r → Unhindered own bs fault (λ q. ⊥) (refusal r)
+  by_marks : (bs : List Blocker) (fault : Option Refusal) (r : Refusal) → bs ≡ [] → fault ≡ Some r → Unhindered own bs fault (λ x. ⊥) (refusal r)
   by_marks bs fault r none is = rw (none, is) refl
 
-  pub marked_object : (fault : FixedFault) (r : declared.Refusal) → s.graph.now.blockers ≡ [] → marks_fault own s.graph.now l.fixed l.costs ≡ Some fault
-      → Some (seen_refusal r) ≡ refusal_of_fault l.fixed l.costs fault
-      → p ≡ refused_for [] (refusal_object (command_name ask.Cut) (seen_refusal r) (mark_items (seen_refusal r))) → IsHinderedKept l s p
-  marked_object fault r none named seen is = (
+  -- by a mark or a cost
+  pub by_mark : (fault : FixedFault) (r : declared.Refusal) → s.graph.now.blockers ≡ [] → marks_fault own s.graph.now l.fixed l.costs ≡ Some fault
+      → Some (seen_refusal r) ≡ refusal_of_fault l.fixed l.costs fault → IsInAnyFormat form (refusal (seen_refusal r)) p → IsHinderedKept form q l s p
+  by_mark fault r none named seen is = (
     refusal (seen_refusal r),
     by_marks s.graph.now.blockers (marks_refusal own s.graph.now l.fixed l.costs) (seen_refusal r) none (ap (option_and_then (refusal_of_fault l.fixed l.costs)) named ∙ sym seen),
-    λ listing laid fits. object_of_refusal ask.Cut (kind_of s.language listing) [] r p is,
+    λ listing laid fits. is q own (kind_of s.language listing),
   )
 
   ---- directives whose header is not found
 
-  abbrev Strays : Question → List Missing
-  Strays q = asked_strays_of form.asked q s.graph.now
+  abbrev strays : List Missing
+  strays = asked_strays_of form.asked q s.graph.now
 
   -- the answer, where all of them are excepted
-  pub strict_none : (q : Question) → Strays q ≡ [] → IsNamedKept form l s p → IsStrictKept form q l s p
-  strict_none q none is = (
+  pub strict_none : strays ≡ [] → IsNamedKept form q l s p → IsStrictKept form q l s p
+  strict_none none is = (
     is.0,
     λ listing laid fits. (
-      unless_none own (Strays q) (IsNamedOf form l s.language listing own s.graph.now) is.0 none (is.1 listing laid fits).0,
+      unless_none own strays (IsNamedOf form l s.language listing own s.graph.now) is.0 none (is.1 listing laid fits).0,
       (is.1 listing laid fits).1,
     ),
   )
 
-  -- their refusal as text
-  pub strict_text : (q : Question) → Strays q ≢ [] → form.format ≢ Json → p ≡ not_found own (Strays q) → IsStrictKept form q l s p
-  strict_text q some format is = (
-    p,
+  -- their refusal
+  strict_as : strays ≢ []
+      → ((listing : Listing) → Fits s.files.now listing → p ≡ refused_for (stray_reasons own strays) (refused_text form (kind_of s.language listing) (NotFound own strays))) → IsStrictKept form q l s p
+  strict_as some is = (
+    not_found own strays,
     λ listing laid fits. (
-      unless_some own (Strays q) (IsNamedOf form l s.language listing own s.graph.now) p some is,
-      text_format form (kind_of s.language listing) p format,
+      unless_some own strays (IsNamedOf form l s.language listing own s.graph.now) (not_found own strays) some refl,
+      inl (stray_reasons own strays, NotFound own strays, refl, refl, is listing fits),
     ),
   )
 
+  -- as text
+  pub strict_text : strays ≢ [] → form.format ≢ Json → p ≡ not_found own strays → IsStrictKept form q l s p
+  strict_text some format is =
+      strict_as some (λ listing fits. is ∙ ap (refused_for (stray_reasons own strays)) (sym (as_text form (kind_of s.language listing) (NotFound own strays) format)))
+
   -- and as an object
-  pub strict_object : (q : Question) → Strays q ≢ [] → form.format ≡ Json
-      → p ≡ refused_for (stray_reasons own (Strays q)) (refusal_json (command_name form.asked) (kept_kind s.language s.files.now) (NotFound own (Strays q)))
-      → IsStrictKept form q l s p
-  strict_object q some format is = (
-    not_found own (Strays q),
-    λ listing laid fits. (
-      unless_some own (Strays q) (IsNamedOf form l s.language listing own s.graph.now) (not_found own (Strays q)) some refl,
-      json_format form (kind_of s.language listing) (not_found own (Strays q)) p format
-          (inl (
-            stray_reasons own (Strays q),
-            NotFound own (Strays q),
-            refl,
-            is ∙ ap (refused_for (stray_reasons own (Strays q)))
-                (strays_same s.language s.files.now own listing fits s.graph.now held (command_name form.asked) (Strays q)
-                (strays_all (λ (m : Missing). IsTrue (is_some (kept_at s.files.now m.file))) form.asked q s.graph.now held.missing)),
-          )),
-    ),
-  )
+  pub strict_object : strays ≢ [] → form.format ≡ Json
+      → p ≡ refused_for (stray_reasons own strays) (refusal_json (command_name form.asked) (kept_kind s.language s.files.now) (NotFound own strays)) → IsStrictKept form q l s p
+  strict_object some format is =
+      strict_as some
+      (λ listing fits. is ∙ ap (refused_for (stray_reasons own strays))
+      (strays_same s.language s.files.now own listing fits s.graph.now held (command_name form.asked) strays
+      (strays_all (λ (m : Missing). IsTrue (is_some (kept_at s.files.now m.file))) form.asked q s.graph.now held.missing)
+      ∙ sym (as_object form (kind_of s.language listing) (NotFound own strays) format)))
 
 ---- the files of a graph
 
@@ -411,7 +469,7 @@ module _ {S : Type 0} (gives : S → ℕ → Result (List ℕ) ReadFault → S �
 
 module _ {S : Type 0} (gives : S → ℕ → Result (List ℕ) ReadFault → S → Type 0) (old new : KeptSources S) (layout : Layout) (form : NamedForm) (q : Question) (l : Limits) (p : Printed) where
   pub named_given : (plain : Printed) (graph : Graph) (n : ℕ) → old.files ≡ replicate n None
-      → OfKept new.files layout (λ listing. IsStrictOf form q l q.language listing layout graph plain × IsInFormat form (kind_of q.language listing) plain p)
+      → OfKept new.files layout (λ listing. IsStrictOf form q l q.language listing layout graph plain × IsInFormat form q layout (kind_of q.language listing) plain p)
       → HoldsOfGiven (keeps gives) old new layout (IsAnswerBy (λ k g r. g ≡ graph) q plain)
       → HoldsOfGiven gives old.sources new.sources layout (IsNamedBy form q l p)
   named_given plain graph n none told holds =
@@ -425,7 +483,7 @@ module _ {S : Type 0} (gives : S → ℕ → Result (List ℕ) ReadFault → S �
               (λ g same. subst (λ (k : Layout). IsStrictOf form q l q.language listing k g plain) (sym laid) (subst (λ (h : Graph). IsStrictOf form q l q.language listing layout h plain) (sym same) here.0)) is.0,
           is.1,
         ),
-        here.1,
+        subst (λ (k : Layout). IsInFormat form q k (kind_of q.language listing) plain p) (sym laid) here.1,
       )))
 
   pub named_refused : (plain : Printed) → IsInAnyFormat form plain p → HoldsOfGiven (keeps gives) old new layout (IsAnswerBy (λ k g r. ⊥) q plain)
@@ -435,7 +493,7 @@ module _ {S : Type 0} (gives : S → ℕ → Result (List ℕ) ReadFault → S �
       (λ given listing gave laid agrees is. (
         plain,
         (answer_all (λ k g r. ⊥) (IsStrictOf form q l q.language listing) q listing plain (λ g none. absurd none) is.0, is.1),
-        format (kind_of q.language listing),
+        format q (layout_of listing) (kind_of q.language listing),
       ))
 
 ---- what it promises
@@ -487,7 +545,7 @@ module _ (form : NamedForm) (q : Question) (l : Limits) (p : Printed) (given : L
   cut_headline is = record { cut = λ end. answered_of end; none = λ end. negative_of end }
     where
       kind_is : (kind : EndKind) → p.end.kind ≡ kind → kind ≢ Refused → p ≡ is.0
-      kind_is kind end other = plain_format as_cut (kind_of q.language listing) is.0 p (λ refused. other (sym end ∙ refused)) is.2
+      kind_is kind end other = plain_format as_cut q layout (kind_of q.language listing) is.0 p (λ refused. other (sym end ∙ refused)) is.2
 
       answered_of : p.end.kind ≡ Answered → NamedKeepsHeadersOut as_cut q l listing p.text
       answered_of end =

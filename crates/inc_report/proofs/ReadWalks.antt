@@ -26,18 +26,19 @@ use Rattle.inc_expand.specs.declared.places.Mode.TheVariants.{Plain}
 use Rattle.inc_expand.specs.Expansion.{Item, Meter}
 use Rattle.inc_expand.specs.Openings.{Held as HeldToken, held_source, opening}
 use Rattle.inc_pp.specs.declared.causes.Cause.{Cause}
-use Rattle.inc_pp.specs.declared.causes.Cause.TheVariants.{Expand, TooDeep, TooManyReads}
+use Rattle.inc_pp.specs.declared.causes.Cause.TheVariants.{Expand, TooDeep, TooManyReads, TooMuchOutput}
 use Rattle.inc_pp.specs.declared.causes.Cause.TheVariants as cause
 use Rattle.inc_pp.specs.declared.settings.Missing.{Missing}
 use Rattle.inc_pp.specs.declared.settings.Missing.TheVariants as missing
-use Rattle.inc_pp.specs.Directives.{after_pragma, line_operands, names_once, changed, control_of, ends_call, released_for, with_table}
+use Rattle.inc_pp.specs.Directives.{after_pragma, line_operands, names_once, changed, control_of, ends_call, put_pragma, released_for, with_table}
 use Rattle.inc_pp.specs.Files.{FileFault, tree_of}
 use Rattle.inc_pp.specs.Includes.{Header, after_found, found_from, header_of, is_done, is_import, not_found, wanted, led_to, entered, include_target, included}
 use Rattle.inc_pp.specs.Preprocessing.{Outcome, group_read, section_read, tree_read, counted_read, file_read, reading, most_depth, named_settings, outcome_of, with_read, preprocessing}
 use Rattle.inc_pp.specs.Pragmas.{Laid, is_stacking, laid, restacked, stacked, stacked_name}
 use Rattle.inc_pp.specs.OpenCalls.{called_name, first_line_in, open_behind, spellings}
 use Rattle.inc_pp.specs.Poison.{asked, asked_directive, is_poisonable, line_asked, names_poison, poison, poison_all, poisoned_by}
-use Rattle.inc_pp.specs.Runs.{closed_or, expanded, is_unclosed, line_of_run, marks_in, put_laid, released_at, run_expanded, run_given, run_opened, run_read, text_read, tokens_read, with_meter, with_waiting}
+use Rattle.inc_pp.specs.Printed.{printed}
+use Rattle.inc_pp.specs.Runs.{bounded, closed_or, expanded, is_unclosed, line_of_run, marks_in, put_laid, put_out, released_at, run_expanded, run_given, run_opened, run_read, text_read, tokens_read, with_meter, with_waiting}
 use Rattle.inc_pp.specs.Sections.{condition_of, operands}
 use Rattle.inc_pp.specs.Settings.{Settings, is_too_much}
 use Rattle.inc_pp.specs.Entries.{FileToRead}
@@ -143,16 +144,26 @@ module _ (Near : Found → Type 0) (Absent : List ℕ → Type 0) where
   abbrev IsNearGiven : State × List HeldToken → Type 0
   IsNearGiven r = IsNear r.0
 
-  put_near : (f : File) (h : Here) (s : State) (ts : List Tok) → IsNear s → Keeps IsNear (run_expanded f h s ts)
-  put_near f h s ts n = keeps_then (expanded_near f h s ts n) (λ r k. keeps_after _ (λ l. keeps_ok k))
+  bounded_near : (most : Option ℕ) (s : State) → IsNear s → Keeps IsNear (bounded most s)
+  bounded_near most s n = by (is_too_much most (length (printed s.output)))
+    where
+      by : (b : Bool) → Keeps IsNear (cond {A = Result State Cause} b (Err TooMuchOutput) (Ok s))
+      by true = keeps_err
+      by false = keeps_ok n
 
-  laid_near : (file : ℕ) (s : State) (call : List HeldToken) (meter : Meter) (r : Result Laid Cause) → IsNear s → Keeps IsNearGiven (r >>= λ l. Ok (put_laid file l (with_meter meter s), call))
-  laid_near file s call meter (Ok l) n = keeps_ok n
-  laid_near file s call meter (Err c) n = keeps_err
+  put_near : (f : File) (h : Here) (s : State) (ts : List Tok) → IsNear s → Keeps IsNear (run_expanded f h s ts)
+  put_near f h s ts n =
+      keeps_then (expanded_near f h s ts n) (λ r k. keeps_after _ (λ l. bounded_near f.task.settings.most_output (put_laid f.index l r.1) k))
+
+  laid_near : (most : Option ℕ) (file : ℕ) (s : State) (call : List HeldToken) (meter : Meter) (r : Result Laid Cause) → IsNear s
+      → Keeps IsNearGiven (r >>= λ l. bounded most (put_laid file l (with_meter meter s)) >>= λ t. Ok (t, call))
+  laid_near most file s call meter (Ok l) n = keeps_then (bounded_near most (put_laid file l (with_meter meter s)) n) (λ t k. keeps_ok k)
+  laid_near most file s call meter (Err c) n = keeps_err
 
   items_near : (f : File) (h : Here) (s : State) (r : Result (List Item × List HeldToken × Meter) Cause) → IsNear s
-      → Keeps IsNearGiven (r >>= λ x. laid s.table.language (marks_in f h) None x.0 >>= λ l. Ok (put_laid f.index l (with_meter x.2 s), x.1))
-  items_near f h s (Ok x) n = laid_near f.index s x.1 x.2 (laid s.table.language (marks_in f h) None x.0) n
+      → Keeps IsNearGiven (r >>= λ x. laid s.table.language (marks_in f h) None x.0 >>= λ l.
+      bounded f.task.settings.most_output (put_laid f.index l (with_meter x.2 s)) >>= λ t. Ok (t, x.1))
+  items_near f h s (Ok x) n = laid_near f.task.settings.most_output f.index s x.1 x.2 (laid s.table.language (marks_in f h) None x.0) n
   items_near f h s (Err c) n = keeps_err
 
   opened_near : (f : File) (h : Here) (s : State) (ts : List Tok) → IsNear s → Keeps IsNearGiven (run_opened f h s ts)
@@ -262,18 +273,19 @@ module _ (Near : Found → Type 0) (Absent : List ℕ → Type 0) where
       by true = keeps_ok (poison_near ts s n)
       by false = keeps_err
 
-  pragma_kept : (a b c : Bool) (s t : State) (r q : Result State Cause) → IsNear s → Keeps IsNear r → Keeps IsNear q → IsNear t
-      → Keeps IsNear (cond a (Ok s) (cond b r (cond c q (Ok t))))
-  pragma_kept true b c s t r q n k i m = keeps_ok n
-  pragma_kept false true c s t r q n k i m = k
-  pragma_kept false false true s t r q n k i m = i
-  pragma_kept false false false s t r q n k i m = keeps_ok m
+  pragma_kept : (a b c : Bool) (s : State) (r q p : Result State Cause) → IsNear s → Keeps IsNear r → Keeps IsNear q → Keeps IsNear p
+      → Keeps IsNear (cond a (Ok s) (cond b r (cond c q p)))
+  pragma_kept true b c s r q p n k i m = keeps_ok n
+  pragma_kept false true c s r q p n k i m = k
+  pragma_kept false false true s r q p n k i m = i
+  pragma_kept false false false s r q p n k i m = m
 
   after_pragma_near : (f : File) (l : FileLine) (s : State) (h : Here) → IsNear s → Keeps IsNear (after_pragma f l s h)
   after_pragma_near f l s h n =
-      pragma_kept (names_once (operands l)) (is_stacking s.table.language (operands l)) (names_poison s.table.language (operands l)) _ _
-      (restacked (operands l) s.table >>= λ t. Ok (with_table t s)) (poisoned_by (drop 2 (operands l)) s) n
-      (keeps_then (restacked_absent (operands l) s.table n.1) (λ table absent. keeps_ok (n.0, absent))) (poisoned_near (drop 2 (operands l)) s n) n
+      pragma_kept (names_once (operands l)) (is_stacking s.table.language (operands l)) (names_poison s.table.language (operands l)) _
+      (restacked (operands l) s.table >>= λ t. Ok (with_table t s)) (poisoned_by (drop 2 (operands l)) s) _ n
+      (keeps_then (restacked_absent (operands l) s.table n.1) (λ table absent. keeps_ok (n.0, absent))) (poisoned_near (drop 2 (operands l)) s n)
+      (bounded_near f.task.settings.most_output (put_out (put_pragma s.table.language (marks_in f h) (line_of_tokens l.tokens) l.tokens) s) n)
 
   changed_near : (directive : DirectiveKind) (f : File) (l : FileLine) (s : State) (h : Here) → Leads f (Other directive) l.tokens → IsNear s
       → Keeps IsNearHere (changed directive f l s h)

@@ -1,5 +1,6 @@
--- Why an answer about cuts is refused where blockers are: what each of them is, and the words that take them as removed.
-use Rattle.std.specs.Prelude.{ℕ, ◌-◌, ◌==◌, ◌||◌, List, [], ◌∷◌, ◌++◌, if◌then◌else◌, codes, decimal, flat_map, length, take}
+-- Why an answer about cuts is refused where blockers are: what each of them is, and how to go on.
+use Rattle.std.specs.Prelude.{ℕ, ◌-◌, ◌==◌, ◌||◌, Bool, true, false, List, [], ◌∷◌, ◌++◌, if◌then◌else◌, codes, decimal, flat_map, length, take}
+use Rattle.std.specs.List.{list_any}
 use Rattle.inc_text.specs.Ascii.{apostrophe, asterisk, close_bracket, open_bracket, question_mark}
 use Rattle.inc_lookup.specs.Projects.{Layout, path_at}
 use Rattle.inc_graph.specs.declared.graphs.Blocker.{Blocker}
@@ -19,6 +20,20 @@ blocker_reason_words Several = codes "it may include several headers"
 abbrev pub blocker_reason : Layout → Blocker → List ℕ
 blocker_reason layout b = reason_line (path_at layout b.file) b.line (blocker_reason_words b.kind)
 
+---- how to go on
+
+-- the line with the words that leave macros undefined
+abbrev pub undefine_line : (words : List ℕ) → List ℕ
+undefine_line words = codes "incut: if no build defines the name, add" ++ words ++ 10 ∷ []
+
+abbrev pub is_computed : BlockerKind → Bool
+is_computed Computed = true
+is_computed _ = false
+
+-- the one where macros make the name of a header, and where it is not known which
+abbrev pub any_name_line : List Blocker → List ℕ
+any_name_line bs = if list_any (λ (b : Blocker). is_computed b.kind) bs then undefine_line (codes " --undefined NAME") else []
+
 -- a byte of a path in a glob between apostrophes, where it stands for itself
 abbrev pub glob_byte : ℕ → List ℕ
 glob_byte b =
@@ -33,7 +48,12 @@ drop_word layout b = codes " --drop '" ++ flat_map glob_byte (path_at layout b.f
 abbrev pub drop_line : Layout → List Blocker → List ℕ
 drop_line layout bs = codes "incut: if no build includes the header there, add" ++ flat_map (drop_word layout) bs ++ 10 ∷ []
 
--- what is said beside the refusal: a line on each of the first blockers, how many more there are, and the words for those that have a line
+---- what is said beside the refusal
+
+-- a line on each of the first blockers, how many more there are, and how to go on with those that have a line
+abbrev pub reasons_by : (line : Blocker → List ℕ) → (undefine : List Blocker → List ℕ) → Layout → List Blocker → List ℕ
+reasons_by line undefine layout bs =
+    flat_map line (take most_unnamed bs) ++ more_line (length bs - most_unnamed) ++ undefine (take most_unnamed bs) ++ drop_line layout (take most_unnamed bs)
+
 abbrev pub blocked_reasons : Layout → List Blocker → List ℕ
-blocked_reasons layout bs =
-    flat_map (blocker_reason layout) (take most_unnamed bs) ++ more_line (length bs - most_unnamed) ++ drop_line layout (take most_unnamed bs)
+blocked_reasons layout bs = reasons_by (blocker_reason layout) any_name_line layout bs

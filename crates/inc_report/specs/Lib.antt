@@ -31,6 +31,7 @@ pub mod MissingNotes
 pub mod NameTables
 pub mod NamedFiles
 pub mod NamedHeadline
+pub mod NamedReasons
 pub mod NamedText
 pub mod NearNames
 pub mod NoOutcomes

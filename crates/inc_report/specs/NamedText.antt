@@ -5,23 +5,24 @@ use Rattle.std.specs.List.{concat}
 use Rattle.inc_text.specs.declared.languages.Language.{Language}
 use Rattle.inc_lookup.specs.declared.projects.DirectiveId.{DirectiveId}
 use Rattle.inc_lookup.specs.Given.{Given}
-use Rattle.inc_lookup.specs.Projects.{Layout, Listing}
+use Rattle.inc_lookup.specs.Projects.{Layout, Listing, layout_of}
 use Rattle.inc_directive.specs.LineKinds.{LineKind}
 use Rattle.inc_graph.specs.Cuts.{Counted}
 use Rattle.inc_graph.specs.IncludeGraph.{Graph}
 use Rattle.inc_report.specs.CutDocument.{cut_document, fixed_document, has_costs}
 use Rattle.inc_report.specs.CutText.{Unhindered, WithAmounts, marks_refusal}
-use Rattle.inc_report.specs.DirectiveNames.{kind_of, written}
+use Rattle.inc_report.specs.DirectiveNames.{kept_kind, kind_of, written}
 use Rattle.inc_report.specs.Documents.{Block, document_text}
 use Rattle.inc_report.specs.DotText.{Drawn, all_drawn, dot_text, drawn}
 use Rattle.inc_report.specs.GraphDocument.{graph_document}
 use Rattle.inc_report.specs.JsonAnswers.{About, cut_json, fixed_json, graph_json, who_json, why_json}
 use Rattle.inc_report.specs.JsonRefusals.{refusal_json}
 use Rattle.inc_report.specs.KeptFiles.{OfKept}
+use Rattle.inc_report.specs.NamedReasons.{named_reasons}
 use Rattle.inc_report.specs.Printed.{Printed, end_of, refused_for}
 use Rattle.inc_report.specs.Questions as questions
 use Rattle.inc_report.specs.Questions.{IsAnswerBy}
-use Rattle.inc_report.specs.Refusals.{Refusal, refusal_for}
+use Rattle.inc_report.specs.Refusals.{Blocked, NotFound, Refusal, refusal_for, refusal_text}
 use Rattle.inc_report.specs.Strictness.{Strict, asked_strays_of}
 use Rattle.inc_report.specs.Terms.{Question, Limits}
 use Rattle.inc_report.specs.Told.{Answer, Chains, Sources, Edges, Removed, FixedChain, IsAnswerOf, end_kind, notes_of}
@@ -101,15 +102,31 @@ abbrev pub asks_headers : Asked → Bool
 asks_headers ask.Graph = false
 asks_headers _ = true
 
--- a refusal is an object, and an answer stays
-abbrev pub IsObject : Asked → (kind : DirectiveId → LineKind) → (plain : Printed) → Printed → Type 0
-IsObject asked kind plain p =
-    ((reason : List ℕ) × (r : Refusal) × (plain ≡ refusal_for reason r) × (p ≡ refused_for reason (refusal_json (command_name asked) kind r)))
-    ⊎ (plain.end.kind ≢ Refused) × (p ≡ plain)
+-- as a text, or as an object
+abbrev pub refused_text : NamedForm → (kind : DirectiveId → LineKind) → Refusal → List ℕ
+refused_text form kind r =
+    elim form.format [ Gcc ↦ refusal_text r | Json ↦ refusal_json (command_name form.asked) kind r | Dot ↦ refusal_text r ]
 
--- what is printed in a format where this would be printed as text, or is an answer that is
-abbrev pub IsInFormat : NamedForm → (kind : DirectiveId → LineKind) → (plain : Printed) → Printed → Type 0
-IsInFormat form kind plain p = elim form.format [ Gcc ↦ p ≡ plain | Json ↦ IsObject form.asked kind plain p | Dot ↦ p ≡ plain ]
+-- the reason beside it: that of blockers says how their directives are written
+abbrev pub reason_in : Question → (kind : DirectiveId → LineKind) → (reason : List ℕ) → Refusal → List ℕ
+reason_in q kind reason (Blocked layout bs) = named_reasons q.language q.undefined kind layout bs
+reason_in q kind reason _ = reason
+
+-- the files whose directives it names are those of this layout
+abbrev pub IsOfLayout : Layout → Refusal → Type 0
+IsOfLayout layout (Blocked own bs) = own ≡ layout
+IsOfLayout layout (NotFound own ms) = own ≡ layout
+IsOfLayout layout _ = Unit {0}
+
+-- the refusal that would be printed as text is printed so
+abbrev pub IsRefused : NamedForm → Question → Layout → (kind : DirectiveId → LineKind) → (plain : Printed) → Printed → Type 0
+IsRefused form q layout kind plain p =
+    (reason : List ℕ) × (r : Refusal) × IsOfLayout layout r × (plain ≡ refusal_for reason r)
+    × (p ≡ refused_for (reason_in q kind reason r) (refused_text form kind r))
+
+-- what is printed in a format where this would be printed as text, or is an answer that is in the format
+abbrev pub IsInFormat : NamedForm → Question → Layout → (kind : DirectiveId → LineKind) → (plain : Printed) → Printed → Type 0
+IsInFormat form q layout kind plain p = IsRefused form q layout kind plain p ⊎ (plain.end.kind ≢ Refused) × (p ≡ plain)
 
 ---- what is printed
 
@@ -136,28 +153,34 @@ IsStrictOf form q l language listing = Strict (asked_strays_of form.asked q) (Is
 -- of a question, and which files are read for that
 abbrev pub IsNamedBy : NamedForm → Question → Limits → Printed → List Given → Listing → Type 0
 IsNamedBy form q l p given listing =
-    (plain : Printed) × IsAnswerBy (IsStrictOf form q l q.language listing) q plain given listing × IsInFormat form (kind_of q.language listing) plain p
+    (plain : Printed) × IsAnswerBy (IsStrictOf form q l q.language listing) q plain given listing × IsInFormat form q (layout_of listing) (kind_of q.language listing) plain p
 
 ---- by what is kept of the files
 
--- printed in this format where this would be printed as text, whatever the directives of files are
+-- printed in this format where this would be printed as text, whatever the question is, and the directives of files are
 abbrev pub IsInAnyFormat : NamedForm → (plain : Printed) → Printed → Type 0
-IsInAnyFormat form plain p = (kind : DirectiveId → LineKind) → IsInFormat form kind plain p
+IsInAnyFormat form plain p = (q : Question) (layout : Layout) (kind : DirectiveId → LineKind) → IsInFormat form q layout kind plain p
 
 -- of a graph and the files that are kept of it
-abbrev pub IsNamedKept : NamedForm → Limits → Subject → Printed → Type 0
-IsNamedKept form l s p =
+abbrev pub IsNamedKept : NamedForm → Question → Limits → Subject → Printed → Type 0
+IsNamedKept form q l s p =
     (plain : Printed) × OfKept s.files.now s.project.now (λ listing.
-    IsNamedOf form l s.language listing s.project.now s.graph.now plain × IsInFormat form (kind_of s.language listing) plain p)
+    IsNamedOf form l s.language listing s.project.now s.graph.now plain × IsInFormat form q s.project.now (kind_of s.language listing) plain p)
 
 -- the same of a question
 abbrev pub IsStrictKept : NamedForm → Question → Limits → Subject → Printed → Type 0
 IsStrictKept form q l s p =
     (plain : Printed) × OfKept s.files.now s.project.now (λ listing.
-    IsStrictOf form q l s.language listing s.project.now s.graph.now plain × IsInFormat form (kind_of s.language listing) plain p)
+    IsStrictOf form q l s.language listing s.project.now s.graph.now plain × IsInFormat form q s.project.now (kind_of s.language listing) plain p)
 
 -- of what hinders a cut
-abbrev pub IsHinderedKept : Limits → Subject → Printed → Type 0
-IsHinderedKept l s p =
+abbrev pub IsHinderedKept : NamedForm → Question → Limits → Subject → Printed → Type 0
+IsHinderedKept form q l s p =
     (plain : Printed) × Unhindered s.project.now s.graph.now.blockers (marks_refusal s.project.now s.graph.now l.fixed l.costs) (λ r. ⊥) plain
-    × OfKept s.files.now s.project.now (λ listing. IsObject Cut (kind_of s.language listing) plain p)
+    × OfKept s.files.now s.project.now (λ listing. IsInFormat form q s.project.now (kind_of s.language listing) plain p)
+
+-- the refusal of a cut by all blockers of a graph
+abbrev pub blocked_as : NamedForm → Question → Subject → Printed
+blocked_as form q s =
+    refused_for (named_reasons q.language q.undefined (kept_kind s.language s.files.now) s.project.now s.graph.now.blockers)
+    (refused_text form (kept_kind s.language s.files.now) (Blocked s.project.now s.graph.now.blockers))

@@ -76,6 +76,7 @@ cause_numbers cause.TooManyReads = (13, 0)
 cause_numbers cause.BadPragma = (14, 0)
 cause_numbers cause.Poisoned = (15, 0)
 cause_numbers cause.TooMuchRead = (17, 0)
+cause_numbers cause.TooMuchOutput = (18, 0)
 
 -- a stop: cause and fault, and where
 abbrev pub stop_text : Layout → Stop → List ℕ

@@ -66,6 +66,7 @@ cause_words cause.TooManyReads = codes "more than 100,000 files read"
 cause_words cause.BadPragma = codes "bad pragma"
 cause_words cause.Poisoned = codes "poisoned name"
 cause_words cause.TooMuchRead = codes "too many bytes read"
+cause_words cause.TooMuchOutput = codes "too much output"
 
 -- the line on a stop
 abbrev pub stop_reason : Layout → Stop → List ℕ

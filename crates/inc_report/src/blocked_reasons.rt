@@ -1,7 +1,8 @@
-//! Why an answer about cuts is refused where blockers are: what each of them is, and the words that take them as removed.
+//! Why an answer about cuts is refused where blockers are: what each of them is, and how to go on.
 ghost use Rattle.std.specs.Prelude.{◌≡◌, ◌<◌, ◌++◌, codes, decimal, flat_map, length, IfOk, OnOk};
-ghost use Rattle.std.specs.List.{All};
-ghost use Rattle.inc_report.specs.BlockedReasons.{blocked_reasons, blocker_reason, blocker_reason_words, drop_line, drop_word, glob_byte};
+ghost use Rattle.std.specs.List.{All, list_any};
+ghost use Rattle.inc_graph.specs.declared.graphs.Blocker as graphs;
+ghost use Rattle.inc_report.specs.BlockedReasons.{any_name_line, blocked_reasons, blocker_reason, blocker_reason_words, drop_line, drop_word, glob_byte, is_computed, undefine_line};
 
 use crate::fault_reasons::put_reason;
 use crate::missing_notes::{Notes, put_byte, put_number};
@@ -23,6 +24,7 @@ pub(crate) fn blocked_reasons(
     let mut text = Vec::new(alloc);
     put_blockers(&mut text, project, &blockers[..count])?;
     put_more(&mut text, blockers.len() - count)?;
+    put_any_name(&mut text, &blockers[..count])?;
     put_drops(&mut text, project, &blockers[..count])?;
     Ok(Notes::of(text))
 }
@@ -56,7 +58,7 @@ fn put_blocker(
 }
 
 /// What a blocker is.
-fn reason_words(kind: BlockerKind) -> &'static [u8]
+pub(crate) fn reason_words(kind: BlockerKind) -> &'static [u8]
     ensures { result.now ≡ blocker_reason_words kind }
 {
     match kind {
@@ -66,8 +68,45 @@ fn reason_words(kind: BlockerKind) -> &'static [u8]
     }
 }
 
+/// Adds the line that leaves some name undefined, where macros make the name of a header.
+fn put_any_name(text: &mut Vec<u8>, blockers: &[Blocker]) -> Result<(), AllocError>
+    ensures { OnOk result (text.new.items ≡ text.old.items ++ any_name_line blockers.now) }
+{
+    if has_computed(blockers) {
+        return put_undefine(text, b" --undefined NAME");
+    }
+    Ok(())
+}
+
+/// Whether macros make the name of a header.
+fn has_computed(blockers: &[Blocker]) -> bool
+    ensures { result ≡ list_any (λ (b : graphs.Blocker). is_computed b.kind) blockers.now }
+{
+    blockers.iter().any(|blocker| is_computed(blocker.kind))
+}
+
+/// Whether macros make the name of its header.
+fn is_computed(kind: BlockerKind) -> bool
+    ensures { result ≡ is_computed kind }
+{
+    match kind {
+        BlockerKind::Computed => true,
+        _ => false,
+    }
+}
+
+/// Adds the line with these words, which leave macros undefined.
+pub(crate) fn put_undefine(text: &mut Vec<u8>, words: &[u8]) -> Result<(), AllocError>
+    ensures { OnOk result (text.new.items ≡ text.old.items ++ undefine_line words.now) }
+{
+    text.extend_from_slice(b"incut: if no build defines the name, add")?;
+    text.extend_from_slice(words)?;
+    text.push(b'\n')?;
+    Ok(())
+}
+
 /// Adds the line with the words that take these as removed.
-fn put_drops(
+pub(crate) fn put_drops(
     text: &mut Vec<u8>,
     project: &Project<'_>,
     blockers: &[Blocker],

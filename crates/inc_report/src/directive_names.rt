@@ -50,7 +50,7 @@ enum KeptTarget {
 
 /// An include directive by its line.
 #[derive(Drop)]
-struct NamedLine {
+pub(crate) struct NamedLine {
     line: u32,
     kind: KeptKind,
     /// The name in it, if there is one.
@@ -59,7 +59,7 @@ struct NamedLine {
 
 impl NamedLine {
     /// What it is.
-    fn kind(&self) -> LineKind<'_>
+    pub fn kind(&self) -> LineKind<'_>
         ensures { seen_kind result ≡ seen_kept self.now }
     {
         match self.kind {
@@ -199,6 +199,32 @@ impl<'k> NameTable<'k> {
                 put_written(text, alloc, names.kind(directive.line))?;
                 keep_names(&mut self.files, place, names);
                 Ok(())
+            }
+        }
+    }
+
+    /// A directive, by itself.
+    pub fn line(&mut self, alloc: Global, directive: DirectiveId) -> Result<NamedLine, AllocError>
+        ensures line { IfOk result (λ n. seen_kept n ≡ kept_kind self.old.language self.old.kept directive) }
+        ensures same { self.new ≡ self.old }
+    {
+        let line = directive.line;
+        let Some(bytes) = self.kept.bytes(directive.file) else {
+            let kind = LineKind::Text;
+            return named(alloc, Directive { line, kind });
+        };
+        let place = directive.file.index();
+        match known(&self.files, place) {
+            Some(names) => {
+                let kind = names.kind(line);
+                named(alloc, Directive { line, kind })
+            }
+            None => {
+                let names = names_of(alloc, bytes, self.language)?;
+                let kind = names.kind(line);
+                let found = named(alloc, Directive { line, kind })?;
+                keep_names(&mut self.files, place, names);
+                Ok(found)
             }
         }
     }

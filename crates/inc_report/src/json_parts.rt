@@ -43,19 +43,24 @@ impl<'s> JsonText<'s> {
     pub fn new(alloc: Global, subject: Subject<'s>) -> Result<JsonText<'s>, AllocError>
         ensures { IfOk result (λ j. j ≡ begun subject.entry) }
     {
-        let Subject {
-            project,
-            graph,
-            files,
-            language,
-        } = subject;
-        Ok(JsonText {
+        let count = subject.project.count();
+        let names = NameTable::new(alloc, subject.files, subject.language, count)?;
+        Ok(JsonText::with_names(alloc, subject, names))
+    }
+
+    /// The same by these names of its directives.
+    pub fn with_names(alloc: Global, subject: Subject<'s>, names: NameTable<'s>) -> JsonText<'s>
+        requires { names ≡ record { kept = subject.files.now; language = subject.language } }
+        ensures { result ≡ begun subject.entry }
+    {
+        let Subject { project, graph, .. } = subject;
+        JsonText {
             alloc,
             project,
             graph,
-            names: NameTable::new(alloc, files, language, project.count())?,
+            names,
             text: Vec::new(alloc),
-        })
+        }
     }
 
     /// The text.

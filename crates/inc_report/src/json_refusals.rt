@@ -8,6 +8,7 @@ ghost use Rattle.inc_report.specs.JsonTexts.{list_of};
 ghost use Rattle.inc_report.specs.Refusals.{Blocked, NotFound};
 ghost use Rattle.inc_report.specs.Views.{seen_refusal};
 
+use crate::directive_names::NameTable;
 use crate::json_directives::put_directive;
 use crate::json_parts::JsonText;
 use crate::missing_notes::put_number;
@@ -95,17 +96,19 @@ pub(crate) fn refusal_json(
     Ok(text)
 }
 
-/// The refusal by the directives of which nothing can be said.
-pub(crate) fn blocked_json(
+/// The refusal by the directives of which nothing can be said, which are written as these names have it.
+pub(crate) fn blocked_json<'s>(
     alloc: Global,
-    subject: Subject<'_>,
+    subject: Subject<'s>,
+    names: NameTable<'s>,
     command: &[u8],
 ) -> Result<Vec<u8>, AllocError>
+    requires { names ≡ record { kept = subject.files.now; language = subject.language } }
     ensures { IfOk result (λ text. text.items ≡ refusal_json command.now
         (kept_kind subject.entry.language subject.entry.files.now)
         (Blocked subject.entry.project.now subject.entry.graph.now.blockers)) }
 {
-    let mut json = JsonText::new(alloc, subject)?;
+    let mut json = JsonText::with_names(alloc, subject, names);
     json.put(b"{\"command\":\"")?;
     json.put(command)?;
     json.put(b"\",\"format\":1,\"refused\":{\"directives\":")?;

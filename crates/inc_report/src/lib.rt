@@ -35,6 +35,7 @@ mod missing_notes;
 mod name_keys;
 mod named;
 mod named_files;
+mod named_reasons;
 mod near_names;
 mod numbers;
 mod outcome;

@@ -5,13 +5,15 @@ ghost use Rattle.std.specs.List.{All};
 ghost use Rattle.inc_graph.specs.MarkedEdges.{amounts_by, marks_fault};
 ghost use Rattle.inc_graph.specs.declared.fixing.FixedFault.TheVariants as fault;
 ghost use Rattle.inc_report.specs.CutText.{IsHindrance, blocked, refusal_of_fault, marks_refusal, Unhindered};
+ghost use Rattle.inc_report.specs.Refusals.{Blocked, refusal_for};
 ghost use Rattle.inc_report.specs.Views.{seen_refusal};
-ghost use Rattle.inc_report.specs.Writing.{Prints};
+ghost use Rattle.inc_report.specs.Writing.{Prints, SendsWhole};
 
 use crate::asked::Limits;
 use crate::blocked_reasons::blocked_reasons;
 use crate::edges::send_blockers;
 use crate::lines::send_line;
+use crate::missing_notes::Notes;
 use crate::outcome::{End, EndKind, RunFault, noted};
 use crate::output::Output;
 use crate::refusals::{Refusal, refuse};
@@ -122,7 +124,20 @@ fn refuse_blocked<W: ByteSink>(
     ensures fault { IfErr result (λ f. f ≡ RunFault.NoMemory) }
 {
     let reasons = blocked_reasons(alloc, project, blockers)?;
+    Ok(send_blocked(project, blockers, reasons, out))
+}
+
+/// The same with these reasons beside it.
+pub(crate) fn send_blocked<W: ByteSink>(
+    project: &Project<'_>,
+    blockers: &[Blocker],
+    reasons: Notes,
+    out: &mut Output<W>,
+) -> End
+    requires { All (λ (b : Blocker). b.file < length project.now.paths) blockers.now }
+    ensures { SendsWhole (refusal_for reasons (Blocked project.now blockers.now)) out.old out.new result }
+{
     send_line(out, b"refused 5 blocked");
     send_blockers(out, project, blockers);
-    Ok(noted(EndKind::Refused, reasons))
+    noted(EndKind::Refused, reasons)
 }

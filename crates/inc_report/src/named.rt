@@ -8,7 +8,6 @@ ghost use Rattle.inc_graph.specs.IncludeGraph.{IsSound};
 ghost use Rattle.inc_graph.specs.MissingLists.{missing_at};
 ghost use Rattle.inc_graph.specs.Reaching.{Reaching};
 ghost use Rattle.inc_graph.specs.declared.fixing.FixedFault.TheVariants as fault;
-ghost use Rattle.inc_report.specs.BlockedReasons.{blocked_reasons};
 ghost use Rattle.inc_report.specs.CutDocument.{has_costs};
 ghost use Rattle.inc_report.specs.CutText.{IsHindrance};
 ghost use Rattle.inc_report.specs.DirectiveNames.{kept_kind, kept_name};
@@ -16,10 +15,10 @@ ghost use Rattle.inc_report.specs.Documents.{AreGraphKept, document_text};
 ghost use Rattle.inc_report.specs.JsonAnswers.{about_subject, why_json};
 ghost use Rattle.inc_report.specs.JsonRefusals.{mark_items, refusal_json, refusal_object};
 ghost use Rattle.inc_report.specs.NamedHeadline.{NamedHeadline};
-ghost use Rattle.inc_report.specs.NamedText.{IsHinderedKept, IsInAnyFormat, IsNamedBy, IsNamedKept, IsReport, IsStrictKept, answer_lines, answer_text, asks_headers, command_name};
+ghost use Rattle.inc_report.specs.NamedText.{IsHinderedKept, IsInAnyFormat, IsNamedBy, IsNamedKept, IsReport, IsStrictKept, answer_lines, answer_text, asks_headers, blocked_as, command_name};
 ghost use Rattle.inc_report.specs.Printed.{Printed, refused_for};
 ghost use Rattle.inc_report.specs.Questions.{FailsAt, IsStopped, IsWithin, unread_by};
-ghost use Rattle.inc_report.specs.Refusals.{Blocked, NotFound};
+ghost use Rattle.inc_report.specs.Refusals.{NotFound, refusal_for};
 ghost use Rattle.inc_report.specs.Strictness.{asked_strays_of, stray_reasons};
 ghost use Rattle.inc_report.specs.Told.{Chains, Edges, FixedChain, Removed, Sources, chain_found, told_printed};
 ghost use Rattle.inc_report.specs.Views.{seen_refusal};
@@ -27,21 +26,22 @@ ghost use Rattle.inc_report.specs.WhyText.{why_kind, why_notes};
 ghost use Rattle.inc_report.specs.Writing.{Prints, Writes, is_of_certificate, unread_of};
 
 use crate::asked::{Limits, Question};
-use crate::blocked_reasons::blocked_reasons;
 use crate::cut::nearest_cut;
 use crate::cut_document::{ChainForm, cut_document, fixed_document};
+use crate::directive_names::NameTable;
 use crate::documents::Document;
 use crate::dot_text::{chains_dot, cut_dot, fixed_dot, graph_dot};
 use crate::graph_document::graph_document;
 use crate::json_answers::{cut_json, fixed_json, graph_json, who_json, why_json};
 use crate::json_refusals::{blocked_json, refusal_json, strays_json};
 use crate::kept_sources::KeptSources;
-use crate::limits::{Hindrance, amounts_of, refusal_of, refuse_hindrance};
+use crate::limits::{Hindrance, amounts_of, refusal_of, send_blocked};
 use crate::missing_notes::{Notes, empty_notes, unreached_notes};
+use crate::named_reasons::named_reasons;
 use crate::outcome::{End, EndKind, RunFault, reached_kind};
 use crate::output::Output;
-use crate::questions::{NoGraph, find_graph, refusal_of_question, refuse_question};
-use crate::refusals::Refusal;
+use crate::questions::{NoGraph, find_graph, refusal_of_question};
+use crate::refusals::{Refusal, refuse_for};
 use crate::strictness::{open_strays_of, refuse_strays, stray_reasons, strays_of};
 use crate::subjects::{Subject, Told};
 use crate::who::{kind_of, notes_of};
@@ -202,12 +202,24 @@ fn refuse<W: ByteSink>(
     ensures unread { IfErr result (λ f. IfSome (unread_of f) (λ r. unread_by cause ≡ Some r)) }
     ensures certificate { IfErr result (λ f. is_of_certificate f ≡ false) }
 {
+    let (refusal, reason) = refusal_of_question(alloc, project, question, cause)?;
+    refuse_in(alloc, form, refusal, reason, out)
+}
+
+/// Sends a refusal in this format, and a reason beside it.
+fn refuse_in<W: ByteSink>(
+    alloc: Global,
+    form: NamedForm,
+    refusal: Refusal<'_>,
+    reason: Notes,
+    out: &mut Output<W>,
+) -> Result<End, RunFault>
+    ensures sent { Prints (IsInAnyFormat form (refusal_for reason (seen_refusal refusal.entry))) out.old out.new result }
+    ensures fault { IfErr result (λ f. f ≡ RunFault.NoMemory) }
+{
     match form.format {
-        Format::Gcc | Format::Dot => refuse_question(alloc, project, question, cause, out),
-        Format::Json => {
-            let (refusal, reason) = refusal_of_question(alloc, project, question, cause)?;
-            Ok(refusal_report(alloc, form.asked, refusal, reason)?.send(out))
-        }
+        Format::Gcc | Format::Dot => Ok(refuse_for(out, refusal, reason)),
+        Format::Json => Ok(refusal_report(alloc, form.asked, refusal, reason)?.send(out)),
     }
 }
 
@@ -246,7 +258,7 @@ fn answer_strictly<W: ByteSink>(
 {
     let strays = asked_strays_of(alloc, form.asked, question, subject.graph)?;
     if strays.is_empty() {
-        return answer_graph(alloc, subject, limits, form, out);
+        return answer_graph(alloc, subject, question, limits, form, out);
     }
     match form.format {
         Format::Gcc | Format::Dot => {
@@ -298,6 +310,7 @@ fn strays_report(
 fn answer_graph<W: ByteSink>(
     alloc: Global,
     subject: Subject<'_>,
+    question: &Question<'_>,
     limits: &Limits<'_>,
     form: NamedForm,
     out: &mut Output<W>,
@@ -305,7 +318,7 @@ fn answer_graph<W: ByteSink>(
     requires files { subject.graph.now.files ≡ length subject.project.now.paths }
     requires sound { IsSound subject.graph.now }
     requires kept { AreGraphKept subject.graph.now subject.files.now }
-    ensures sent { Prints (IsNamedKept form limits.now subject.entry) out.old out.new result }
+    ensures sent { Prints (IsNamedKept form question.now limits.now subject.entry) out.old out.new result }
     ensures read { IfErr result (λ f. unread_of f ≡ None) }
     ensures certificate { IfErr result (λ f. is_of_certificate f ≡ false) }
 {
@@ -313,7 +326,7 @@ fn answer_graph<W: ByteSink>(
         Asked::Why => Ok(explain(alloc, subject, form)?.send(out)),
         Asked::Who => Ok(tell(alloc, subject, form)?.send(out)),
         Asked::Graph => Ok(list(alloc, subject, form)?.send(out)),
-        Asked::Cut => separate(alloc, subject, limits, form, out),
+        Asked::Cut => separate(alloc, subject, question, limits, form, out),
     }
 }
 
@@ -508,6 +521,7 @@ fn lines_of(alloc: Global, subject: Subject<'_>, document: &Document) -> Result<
 fn separate<W: ByteSink>(
     alloc: Global,
     subject: Subject<'_>,
+    question: &Question<'_>,
     limits: &Limits<'_>,
     form: NamedForm,
     out: &mut Output<W>,
@@ -516,7 +530,7 @@ fn separate<W: ByteSink>(
     requires files { subject.graph.now.files ≡ length subject.project.now.paths }
     requires sound { IsSound subject.graph.now }
     requires kept { AreGraphKept subject.graph.now subject.files.now }
-    ensures sent { Prints (IsNamedKept form limits.now subject.entry) out.old out.new result }
+    ensures sent { Prints (IsNamedKept form question.now limits.now subject.entry) out.old out.new result }
     ensures read { IfErr result (λ f. unread_of f ≡ None) }
     ensures certificate { IfErr result (λ f. is_of_certificate f ≡ false) }
 {
@@ -526,51 +540,66 @@ fn separate<W: ByteSink>(
             let costed = has_costs(limits.costs);
             Ok(smallest(alloc, subject, &fixed, costed, form)?.send(out))
         }
-        Err(cause) => match form.format {
-            Format::Gcc | Format::Dot => {
-                refuse_hindrance(alloc, project, graph, limits, cause, out)
-            }
-            Format::Json => Ok(hindrance_report(alloc, subject, limits, cause)?.send(out)),
-        },
+        Err(cause) => refuse_cut(alloc, subject, question, limits, cause, form, out),
     }
 }
 
-/// What hinders a cut, as an object of JSON.
-fn hindrance_report(
+/// Sends what hinders a cut.
+fn refuse_cut<W: ByteSink>(
     alloc: Global,
     subject: Subject<'_>,
+    question: &Question<'_>,
     limits: &Limits<'_>,
     cause: Hindrance,
-) -> Result<Told, RunFault>
+    form: NamedForm,
+    out: &mut Output<W>,
+) -> Result<End, RunFault>
     requires files { subject.graph.now.files ≡ length subject.project.now.paths }
     requires kept { AreGraphKept subject.graph.now subject.files.now }
     requires hindered { cause ≢ Hindrance.Marks fault.NoMemory →
         IsHindrance subject.project.now subject.graph.now limits.now cause }
-    ensures report { IfOk result (λ report. IsHinderedKept limits.now subject.entry (told_printed report)) }
+    ensures sent { Prints (IsHinderedKept form question.now limits.now subject.entry) out.old out.new result }
     ensures fault { IfErr result (λ f. f ≡ RunFault.NoMemory) }
 {
     match cause {
-        Hindrance::Blocked => Ok(blocked_report(alloc, subject)?),
+        Hindrance::Blocked => refuse_blocked(alloc, subject, question, form, out),
         Hindrance::Marks(fault) => match refusal_of(fault, limits) {
-            Some(refusal) => Ok(refusal_report(alloc, Asked::Cut, refusal, Notes::none())?),
+            Some(refusal) => refuse_in(alloc, form, refusal, Notes::none(), out),
             None => Err(RunFault::NoMemory),
         },
     }
 }
 
-/// The refusal of a cut by blockers, as an object of JSON.
-fn blocked_report(alloc: Global, subject: Subject<'_>) -> Result<Told, AllocError>
+/// Sends the refusal of a cut by blockers, and beside it how their directives are written.
+fn refuse_blocked<W: ByteSink>(
+    alloc: Global,
+    subject: Subject<'_>,
+    question: &Question<'_>,
+    form: NamedForm,
+    out: &mut Output<W>,
+) -> Result<End, RunFault>
     requires { subject.graph.now.files ≡ length subject.project.now.paths }
-    ensures { IfOk result (λ report. told_printed report
-        ≡ refused_for (blocked_reasons subject.entry.project.now subject.entry.graph.now.blockers)
-        (refusal_json (command_name Asked.Cut) (kept_kind subject.entry.language subject.entry.files.now)
-        (Blocked subject.entry.project.now subject.entry.graph.now.blockers))) }
+    ensures sent { Prints (λ p. p ≡ blocked_as form question.now subject.entry) out.old out.new result }
+    ensures fault { IfErr result (λ f. f ≡ RunFault.NoMemory) }
 {
-    Ok(Told {
-        text: blocked_json(alloc, subject, Asked::Cut.name())?,
-        kind: EndKind::Refused,
-        notes: blocked_reasons(alloc, subject.project, subject.graph.blockers())?,
-    })
+    let Subject {
+        project,
+        graph,
+        files,
+        language,
+    } = subject;
+    let blockers = graph.blockers();
+    let mut names = NameTable::new(alloc, files, language, project.count())?;
+    let reasons = named_reasons(alloc, project, question, &mut names, blockers)?;
+    match form.format {
+        Format::Gcc | Format::Dot => Ok(send_blocked(project, blockers, reasons, out)),
+        Format::Json => {
+            let text = blocked_json(alloc, subject, names, form.asked.name())?;
+            let kind = EndKind::Refused;
+            let notes = reasons;
+            Ok(Told { text, kind, notes }.send(out))
+        }
+    }
 }
 
 /// Whether some costs are given.

@@ -29,6 +29,7 @@ pub(crate) fn cause_numbers(cause: Cause) -> (u64, u64)
         Cause::BadPragma => (14, 0),
         Cause::Poisoned => (15, 0),
         Cause::TooMuchRead => (17, 0),
+        Cause::TooMuchOutput => (18, 0),
     }
 }
 

@@ -56,6 +56,7 @@ fn cause_words(cause: Cause) -> &'static [u8]
         Cause::BadPragma => b"bad pragma",
         Cause::Poisoned => b"poisoned name",
         Cause::TooMuchRead => b"too many bytes read",
+        Cause::TooMuchOutput => b"too much output",
     }
 }
 

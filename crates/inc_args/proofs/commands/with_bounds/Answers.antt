@@ -1,8 +1,9 @@
-use Rattle.std.proofs.Common.{◌∙◌, ap}
+use Rattle.std.proofs.Common.{◌∙◌, ap, ap₂}
 use Rattle.std.proofs.lemmas.Result.{IfOk-weaker}
 use Rattle.clap.specs.Words.{app_of, with_rule}
 use Rattle.inc_args.proofs.commands.with_bounds.Goals as goal
 
 pub returns : goal.returns
 returns c =
-    IfOk-weaker c.arg.result _ _ (λ r h. h.shape c.option.ensures.local ∙ ap (with_rule (app_of c.args.command)) c.option.ensures.rule) c.arg.ensures
+    let one = c.in_ok-arg.ensures.shape c.option.ensures.local ∙ ap (with_rule (app_of c.args.command)) c.option.ensures.rule in
+    IfOk-weaker c.arg-2.result _ _ (λ r h. h.shape c.option-2.ensures.local ∙ ap₂ with_rule one c.option-2.ensures.rule) c.arg-2.ensures

@@ -1,13 +1,12 @@
-use Rattle.std.proofs.Common.{◌≡◌, ◌≢◌, ◌++◌, ℕ, List, map, Ok, Err, Result, [], is_some, refl, rules, subst}
+use Rattle.std.proofs.Common.{◌≡◌, ◌≢◌, ◌++◌, ℕ, List, map, Ok, Err, Result, [], refl, rules, subst}
 use Rattle.std.specs.Io.KnownBytes.{Keeps}
 use Rattle.inc_args.specs.Views.{seen_pp}
 use Rattle.inc_lookup.specs.Projects.{Layout}
-use Rattle.inc_pp.specs.Settings.{found_in_settings, limited_settings, marked_settings, usual_settings}
 use Rattle.inc_report.specs.declared.outcome.End.{End}
 use Rattle.inc_report.specs.declared.outcome.RunFault.{RunFault}
 use Rattle.inc_inputs.specs.Inputs.{Gives, Puts}
 use Rattle.inc_cli.specs.Outputs.{Answer, Output, ended}
-use Rattle.inc_cli.specs.Preprocessings.{IsPreprocessed, PpAsked, PrintsEach, all_words, bound_of, missing_of, searched, writes_beside}
+use Rattle.inc_cli.specs.Preprocessings.{IsPreprocessed, PpAsked, PrintsEach, pp_asked_for, searched, writes_beside}
 use Rattle.inc_inputs.specs.Reports.{Report, out_of_memory, report_of}
 use Rattle.inc_build.specs.declared.compiler_words.Kind.{Kind}
 use Rattle.inc_inputs.specs.ProjectLists.{paths_in}
@@ -23,25 +22,9 @@ use Rattle.inc_cli.proofs.BesideLemmas.{written_after}
 use Rattle.inc_cli.proofs.RunLemmas.{run_came, run_came_err, run_here}
 use Rattle.inc_cli.proofs.pp.preprocess_texts.Goals as goal
 
--- what is asked of a project
-abbrev asked_for : Language → Preprocessing → (macros : List (Kind × List ℕ)) → (notes : List ℕ) → pp.PpTexts → Layout → PpAsked
-asked_for language p macros notes t layout = record {
-  paths = paths_in p.files t.list;
-  layout = layout;
-  question = record {
-    sources = p.sources;
-    words = all_words language p macros t;
-    settings = found_in_settings (searched p t).dirs
-        (limited_settings (bound_of p.most_read) (marked_settings p.has_markers (usual_settings language (missing_of p.is_missing_empty))));
-    without = t.without;
-    has_rules = is_some p.deps;
-    has_endings = is_some p.status;
-  };
-  notes = notes;
-}
-
+-- once the project stands
 abbrev asked_with : {S : Type 0} → Language → Preprocessing → (macros : List (Kind × List ℕ)) → (notes : List ℕ) → pp.PpTexts → Layout → Step S PpAsked
-asked_with language p macros notes t layout = comes_to (Ok (asked_for language p macros notes t layout))
+asked_with language p macros notes t layout = comes_to (Ok (pp_asked_for language p macros notes t layout))
 
 made : {S : Type 0} (gives : Gives S) (puts : Puts S) (p : Preprocessing) (a b : PpAsked) (old mid new : S) (out : Output) (result : Result End RunFault) (hindrance : Hindrance)
     (told answer : Result Answer Report)
@@ -72,5 +55,5 @@ returns g c not =
     let out = output_of (g.O.ByteSink.written c.args.out) (g.O.ByteSink.written c.print_each-ended.result.1) (g.O.ByteSink.has_failed c.print_each-ended.result.1) in
     let told : seen_end c.end_of-told.result ≢ Err out_of_memory → seen_end c.end_of-told.result ≡ ended notes (paths_in p.files t.list) [] c.get-hindrance.result c.print_each-ended.result.0 = search rules in
     run_came (listed_layout (paths_in p.files t.list) (searched p t)) (asked_with language p macros notes t) (IsPreprocessed gives puts p) _ _ _ layout e
-    (run_here (asked_for language p macros notes t layout) (IsPreprocessed gives puts p) _ _ _
-    (made gives puts p _ (asked_for language p macros notes t layout) _ _ _ out _ c.get-hindrance.result (seen_end c.end_of-told.result) _ (c.print_each-ended.ensures notes) (search rules) told not (c.write_beside.ensures not)))
+    (run_here (pp_asked_for language p macros notes t layout) (IsPreprocessed gives puts p) _ _ _
+    (made gives puts p _ (pp_asked_for language p macros notes t layout) _ _ _ out _ c.get-hindrance.result (seen_end c.end_of-told.result) _ (c.print_each-ended.ensures notes) (search rules) told not (c.write_beside.ensures not)))

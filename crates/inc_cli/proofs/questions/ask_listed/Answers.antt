@@ -17,7 +17,7 @@ returns-in-Err g c known not =
     let q = seen_question c.args.asking.question.now in
     let l = seen_limits c.args.asking.limits.now in
     let a = added_in c.args.added in
-    let next = with_others c.args.setup.now.language (seen_command c.args.asking.command) q l a c.args.marks.without.items c.args.marks.fixed.items (opened_in c.args.opened.now) c.args.project.now in
+    let next = with_others g.I.Inputs.gives c.args.setup.now.language (seen_command c.args.asking.command) q l a c.args.marks.without.items c.args.marks.fixed.items (opened_in c.args.opened.now) c.args.project.now in
     let keeps : Keeps (g.O.ByteSink.written c.args.out) (g.O.ByteSink.written c.args.out) = search rules in
     run_came_err (include_paths_of a.others) next _ _ _ _ (report_of c.in-Err.failure) (c.in-Err.ensures.fault (λ same. not (ap (λ r. Err r) same))) refl keeps
 
@@ -34,6 +34,6 @@ returns-in-Ok g c known not =
     let layout = c.args.project.now in
     let out = output_of (g.O.ByteSink.written c.args.out) (g.O.ByteSink.written c.ask_built.result.1) (g.O.ByteSink.has_failed c.ask_built.result.1) in
     let P = IsAnswered g.I.Inputs.gives (IsKnown known g.I.Inputs.gives (record { opens = g.I.Inputs.opens; left = g.I.Stream.ByteSource.left }) command) command in
-    run_came (include_paths_of a.others) (with_others language command q l a without fixed o layout) _ _ _ _ c.in-Ok.built.others.items c.in-Ok.ensures.others
-    (subst (λ b. IsRun (asked_built language command q l without fixed o layout b) P c.args.inputs out (seen_end c.ask_built.result.0)) c.in-Ok.ensures.built
+    run_came (include_paths_of a.others) (with_others g.I.Inputs.gives language command q l a without fixed o layout) _ _ _ _ c.in-Ok.built.others.items c.in-Ok.ensures.others
+    (subst (λ b. IsRun (asked_built g.I.Inputs.gives language command q l without fixed o layout b) P c.args.inputs out (seen_end c.ask_built.result.0)) c.in-Ok.ensures.built
     (c.ask_built.ensures known not))

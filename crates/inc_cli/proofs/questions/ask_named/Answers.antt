@@ -51,13 +51,13 @@ returns-in-Ok-None g c known not =
     let answer = seen_end c.ask_read.result.0 in
     let texts = seen_texts c.read_texts-texts.result in
     let mid = c.read_texts-texts.new.inputs in
-    let asked : IsRun (next_of (asked_by language command q l none_added) texts) P mid out answer =
-    subst (λ (a : Added). IsRun (next_of (asked_by language command q l a) texts) P mid out answer) c.none-added.ensures (c.ask_read.ensures known not) in
+    let asked : IsRun (next_of (asked_by gives language command q l none_added) texts) P mid out answer =
+    subst (λ (a : Added). IsRun (next_of (asked_by gives language command q l a) texts) P mid out answer) c.none-added.ensures (c.ask_read.ensures known not) in
     let none : seen_project c.find_question.result ≡ Ok None = search rules in
     run_unless _ input_twice (then (found_if gives q.files (words_of_question q)) next) _ _ _ _ once
     (run_then (found_if gives q.files (words_of_question q)) next _ _ c.find_question.new.inputs _ _ (seen_project c.find_question.result) None
     none c.find_question.ensures
-    (run_read (texts_of gives q l) (asked_by language command q l none_added) P _ mid out answer texts c.read_texts-texts.ensures not asked))
+    (run_read (texts_of gives q l) (asked_by gives language command q l none_added) P _ mid out answer texts c.read_texts-texts.ensures not asked))
 
 pub returns-in-Err : goal.returns-in-Err
 returns-in-Err g c known not =

@@ -20,7 +20,7 @@ returns-in-Err g c known not =
     let l = seen_limits c.args.asking.limits.now in
     let t = texts_with c.args.list.now c.args.marks.fixed.items c.args.marks.without.items c.args.costs.now in
     let keeps : Keeps (g.O.ByteSink.written c.args.out) (g.O.ByteSink.written c.args.out) = search rules in
-    run_judged_err (AreCosts (unwrap_or l.costs []) t.costs) (with_costs c.args.setup.now.language command q l (added_in c.args.added) t) _ _ _ _ _ c.in-Err.ensures.fault refl keeps
+    run_judged_err (AreCosts (unwrap_or l.costs []) t.costs) (with_costs g.I.Inputs.gives c.args.setup.now.language command q l (added_in c.args.added) t) _ _ _ _ _ c.in-Err.ensures.fault refl keeps
 
 pub returns-in-Err-listed_project : goal.returns-in-Err-listed_project
 returns-in-Err-listed_project g c known not =
@@ -34,8 +34,8 @@ returns-in-Err-listed_project g c known not =
     let o = opened_by q t costs in
     let e : listed_layout o.paths o.path ≡ Err (report_of c.in-Err-listed_project.failure) = search rules in
     let keeps : Keeps (g.O.ByteSink.written c.args.out) (g.O.ByteSink.written c.args.out) = search rules in
-    run_judged (AreCosts (unwrap_or l.costs []) t.costs) (with_costs language command q l a t) _ _ _ _ costs c.in-Ok.ensures.costs
-    (run_came_err (listed_layout o.paths o.path) (asked_listed language command q l a t.without t.fixed o) _ _ _ _ _ e refl keeps)
+    run_judged (AreCosts (unwrap_or l.costs []) t.costs) (with_costs g.I.Inputs.gives language command q l a t) _ _ _ _ costs c.in-Ok.ensures.costs
+    (run_came_err (listed_layout o.paths o.path) (asked_listed g.I.Inputs.gives language command q l a t.without t.fixed o) _ _ _ _ _ e refl keeps)
 
 pub returns : goal.returns
 returns g c known not =
@@ -52,6 +52,6 @@ returns g c known not =
     let out = output_of (g.O.ByteSink.written c.args.out) (g.O.ByteSink.written c.ask_listed.result.1) (g.O.ByteSink.has_failed c.ask_listed.result.1) in
     let P = IsAnswered g.I.Inputs.gives (IsKnown known g.I.Inputs.gives (record { opens = g.I.Inputs.opens; left = g.I.Stream.ByteSource.left }) command) command in
     let same = opened_made q t _ costs _ _ _ _ c.in-Ok.ensures.paths c.in-Ok.ensures.undefined c.in-Ok.ensures.external c.in-Ok.ensures.strict c.in-Ok.ensures.path in
-    run_judged (AreCosts (unwrap_or l.costs []) t.costs) (with_costs language command q l a t) _ _ _ _ costs c.in-Ok.ensures.costs
-    (run_came (listed_layout o.paths o.path) (asked_listed language command q l a t.without t.fixed o) _ _ _ _ layout e
-    (subst (λ k. IsRun (asked_listed language command q l a t.without t.fixed k layout) P c.args.inputs out (seen_end c.ask_listed.result.0)) same (c.ask_listed.ensures known not)))
+    run_judged (AreCosts (unwrap_or l.costs []) t.costs) (with_costs g.I.Inputs.gives language command q l a t) _ _ _ _ costs c.in-Ok.ensures.costs
+    (run_came (listed_layout o.paths o.path) (asked_listed g.I.Inputs.gives language command q l a t.without t.fixed o) _ _ _ _ layout e
+    (subst (λ k. IsRun (asked_listed g.I.Inputs.gives language command q l a t.without t.fixed k layout) P c.args.inputs out (seen_end c.ask_listed.result.0)) same (c.ask_listed.ensures known not)))

@@ -7,7 +7,7 @@ use Rattle.inc_report.proofs.json_refusals.blocked_json.Goals as goal
 
 pub returns : goal.returns
 returns c =
-    let old = c.in_ok-json.json in
+    let old = c.with_names-json.result in
     let command = puts_then old c.put.new.self c.put-2.new.self _ _ c.in_ok-put.ensures c.in_ok-put-2.ensures in
     let key = puts_then old c.put-2.new.self c.put-3.new.self _ _ command c.in_ok-put-3.ensures in
     let blocked = puts_about blocked_text old c.put-3.new.self c.put_blocked.new.self _ key c.in_ok-put_blocked.ensures in
@@ -18,4 +18,4 @@ returns c =
     let whole = puts_then old c.put-6.new.self c.put-7.new.self _ _ words c.in_ok-put-7.ensures in
     c.into_text.ensures
     ∙ ap (λ (j : JsonOut). j.text)
-    (whole ∙ ap (λ (j : JsonOut). puts j (refusal_json c.args.command.now (about_of j).kind (Blocked j.layout j.graph.blockers))) c.in_ok-json.ensures)
+    (whole ∙ ap (λ (j : JsonOut). puts j (refusal_json c.args.command.now (about_of j).kind (Blocked j.layout j.graph.blockers))) c.with_names-json.ensures)

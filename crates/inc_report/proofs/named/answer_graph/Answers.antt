@@ -5,12 +5,12 @@ use Rattle.inc_report.proofs.named.answer_graph.Goals as goal
 
 pub returns-in_ok-explain-in-Why-clause-sent : goal.returns-in_ok-explain-in-Why-clause-sent
 returns-in_ok-explain-in-Why-clause-sent g c =
-    prints_one _ _ _ _ _ (why_report c.args.form c.args.limits.now c.args.subject c.requires.kept _ c.in-Why.is c.in_ok-explain-in-Why.ensures) c.send.ensures
+    prints_one _ _ _ _ _ (why_report c.args.form c.args.question.now c.args.limits.now c.args.subject c.requires.kept _ c.in-Why.is c.in_ok-explain-in-Why.ensures) c.send.ensures
 
 pub returns-in_ok-tell-in-Who-clause-sent : goal.returns-in_ok-tell-in-Who-clause-sent
 returns-in_ok-tell-in-Who-clause-sent g c =
-    prints_one _ _ _ _ _ (who_report c.args.form c.args.limits.now c.args.subject c.requires.kept _ c.in-Who.is c.in_ok-tell-in-Who.ensures) c.send-in-Who.ensures
+    prints_one _ _ _ _ _ (who_report c.args.form c.args.question.now c.args.limits.now c.args.subject c.requires.kept _ c.in-Who.is c.in_ok-tell-in-Who.ensures) c.send-in-Who.ensures
 
 pub returns-in_ok-list-in-Graph-clause-sent : goal.returns-in_ok-list-in-Graph-clause-sent
 returns-in_ok-list-in-Graph-clause-sent g c =
-    prints_one _ _ _ _ _ (graph_report c.args.form c.args.limits.now c.args.subject c.requires.kept _ c.in-Graph.is c.in_ok-list-in-Graph.ensures) c.send-in-Graph.ensures
+    prints_one _ _ _ _ _ (graph_report c.args.form c.args.question.now c.args.limits.now c.args.subject c.requires.kept _ c.in-Graph.is c.in_ok-list-in-Graph.ensures) c.send-in-Graph.ensures

@@ -32,7 +32,7 @@ returns-in_err-numbering-in-Line-clause-stop c =
 
 pub returns-in_ok-change-in_default-clause-done : goal.returns-in_ok-change-in_default-clause-done
 returns-in_ok-change-in_default-clause-done c f l u index at =
-    rest-done f l (state_of c.args.self.now) c.args.here.now c.args.file index c.args.settings.now u (option_map place_value c.marks.result) c.marks.ensures
+    rest-done f l (state_of c.args.self.now) c.args.here.now c.args.file index c.args.settings.now u (option_map place_value c.marks-marks.result) c.marks-marks.ensures c.most_output.result c.most_output.ensures
     c.args.kind (map seen c.deref.result.now)
     (sym (c.in_ok-tokens-in_default.ensures l at) ∙ ap (map seen) (sym c.deref.ensures.value)) c.in_default.not-Line
     (state_of c.change.new.self) c.obey.new.self c.language-language.result c.language-language.ensures
@@ -48,7 +48,7 @@ returns-in_err-change-in_default-clause-stop c =
       λ f l u index at.
           let tokens = sym (c.in_ok-tokens-in_default.ensures l at) ∙ ap (map seen) (sym c.deref.ensures.value) in (
             e.0 ∙ ap line_of_tokens (sym tokens),
-            rest-stop f l (state_of c.args.self.now) c.args.here.now c.args.file index c.args.settings.now u (option_map place_value c.marks.result) c.marks.ensures
+            rest-stop f l (state_of c.args.self.now) c.args.here.now c.args.file index c.args.settings.now u (option_map place_value c.marks-marks.result) c.marks-marks.ensures c.most_output.result c.most_output.ensures
                 c.args.kind (map seen c.deref.result.now) tokens c.in_default.not-Line cause e.1,
           ),
     )) c.in_err-change-in_default.ensures.stop)

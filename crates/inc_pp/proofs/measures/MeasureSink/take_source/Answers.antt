@@ -1,0 +1,8 @@
+use Rattle.inc_pp.specs.Measures.{takes_measured}
+use Rattle.inc_pp.proofs.OperatorSteps.{source-more}
+use Rattle.inc_pp.proofs.measures.MeasureSink.take_source.Goals as goal
+
+pub loop-token-preserved : goal.loop-token-preserved
+loop-token-preserved c =
+    source-more takes_measured c.args.first c.args.self.now c.loop-token.self c.take.new.self c.args.tokens.now c.loop-token.token-index _ _
+    c.loop-token-test.true c.loop-token.invariant c.source_ref.ensures (λ b. c.in_ok-take.ensures)
