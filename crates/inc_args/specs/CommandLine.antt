@@ -155,6 +155,13 @@ path = optional_word (codes "PATH")
 abbrev pub certificate : Rule
 certificate = word (codes "CERT")
 
+abbrev pub rules_file : Rule
+rules_file = optional_word (codes "RULES")
+
+-- -e
+abbrev pub rule : Rule
+rule = repeated 101 (codes "rule")
+
 abbrev pub undefined : Rule
 undefined = repeated_option (codes "undefined")
 
@@ -247,6 +254,10 @@ who_rules = undefined ∷ chains ∷ format ∷ most ∷ from ∷ to ∷ header 
 abbrev pub graph_rules : List Rule
 graph_rules = undefined ∷ format ∷ from ∷ []
 
+-- which rules are asked about, in builds that do not define some names
+abbrev pub rule_rules : List Rule
+rule_rules = undefined ∷ rule ∷ rules_file ∷ []
+
 abbrev pub scan : App
 scan = command (codes "scan") (extended ∷ gnu ∷ format ∷ path ∷ [])
 
@@ -258,6 +269,9 @@ who = command (codes "who") (extended ∷ gnu ∷ file_rules ++ drop_rules ++ st
 
 abbrev pub graph : App
 graph = command (codes "graph") (extended ∷ gnu ∷ file_rules ++ drop_rules ++ strict_rules ++ graph_rules)
+
+abbrev pub rules : App
+rules = command (codes "rules") (extended ∷ gnu ∷ file_rules ++ drop_rules ++ strict_rules ++ note_rules ++ rule_rules)
 
 abbrev pub cut : App
 cut = command (codes "cut") (extended ∷ gnu ∷ file_rules ++ drop_rules ++ strict_rules ++ note_rules ++ limit_rules ++ form_rules ++ end_rules)
@@ -280,7 +294,7 @@ with_command app sub = with_subcommand app sub.top
 
 -- with the commands that tell what sources include
 abbrev pub with_views : App → App
-with_views app = fold with_command app (scan ∷ why ∷ who ∷ graph ∷ [])
+with_views app = fold with_command app (scan ∷ why ∷ who ∷ graph ∷ rules ∷ [])
 
 -- with those that tell what to edit, check it, and preprocess
 abbrev pub with_edits : App → App

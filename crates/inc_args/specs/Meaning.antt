@@ -88,6 +88,11 @@ pub record Preprocessing : Type 0 where
   -- the file that is written with how each source ended
   pub status : Option Text
 
+-- rules: the file that has them, and those that are words
+pub record RuleWords : Type 0 where
+  pub file : Option Text
+  pub rules : List Text
+
 -- a command with what it is asked
 pub data Asked : Type 0 where
   -- the file, standard input where none is named, and the name of the format
@@ -97,6 +102,8 @@ pub data Asked : Type 0 where
   Who : Question → Format → Asked
   -- about sources alone
   Graph : Question → Format → Asked
+  -- about the sources of rules
+  Rules : Question → RuleWords → Asked
   Cut : Question → Limits → Forms → Asked
   -- and the certificate
   Check : Question → Limits → Text → Asked
@@ -174,6 +181,9 @@ or_all build (word ∷ words) = word ∷ words
 abbrev pub who_in : List Row → Question
 who_in rows = record (question_in rows) { from = or_all (first_of (codes "build") rows) (values_of (codes "from") rows) }
 
+abbrev pub rules_in : List Row → RuleWords
+rules_in rows = record { file = first_of (codes "RULES") rows; rules = values_of (codes "rule") rows }
+
 abbrev pub limits_in : List Row → Limits
 limits_in rows = record {
   fixed = first_of (codes "fixed") rows;
@@ -216,6 +226,7 @@ asked_by name rows =
     if bytes_eq name (codes "why") then Why (question_in rows) (format_in (codes "all") rows) else
     if bytes_eq name (codes "who") then Who (who_in rows) (format_in (codes "chains") rows) else
     if bytes_eq name (codes "graph") then Graph (who_in rows) (format_in (codes "all") rows) else
+    if bytes_eq name (codes "rules") then Rules (question_in rows) (rules_in rows) else
     if bytes_eq name (codes "cut") then Cut (question_in rows) (limits_in rows) (forms_in rows) else
     if bytes_eq name (codes "check") then Check (question_in rows) (limits_in rows) (value_of (codes "CERT") rows) else
     if bytes_eq name (codes "pp") then Pp (preprocessing_in rows) else Scan (first_of (codes "PATH") rows) (first_of (codes "format") rows)

@@ -9,8 +9,9 @@ use Rattle.inc_args.specs.declared.requests.LimitArgs.{LimitArgs}
 use Rattle.inc_args.specs.declared.requests.PpArgs.{PpArgs}
 use Rattle.inc_args.specs.declared.requests.QuestionArgs.{QuestionArgs}
 use Rattle.inc_args.specs.declared.requests.Request.{Request}
+use Rattle.inc_args.specs.declared.requests.RuleArgs.{RuleArgs}
 use Rattle.inc_args.specs.declared.requests.Request.TheVariants as request
-use Rattle.inc_args.specs.Meaning.{Asked, FileWords, Format, Forms, Languages, Limits, Meaning, Preprocessing, Question, Scan, Why, Who, Graph, Cut, Check, Pp}
+use Rattle.inc_args.specs.Meaning.{Asked, FileWords, Format, Forms, Languages, Limits, Meaning, Preprocessing, Question, RuleWords, Scan, Why, Who, Graph, Rules, Cut, Check, Pp}
 
 abbrev pub seen_files : FileList → FileWords
 seen_files f = record {
@@ -68,6 +69,9 @@ seen_format f = record { name = option_map (λ n. n.now) f.name; is_all = f.all;
 abbrev pub seen_forms : FormArgs → Forms
 seen_forms f = record { is_blank = f.blank; is_patch = f.patch; format = seen_format f.format }
 
+abbrev pub seen_rules : RuleArgs → RuleWords
+seen_rules r = record { file = option_map (λ f. f.now) r.file; rules = map (λ w. w.now) r.rules.items }
+
 abbrev pub seen_languages : LanguageArgs → Languages
 seen_languages l = record { is_extended = l.extended; is_gnu = l.gnu }
 
@@ -76,6 +80,7 @@ seen_request (request.Scan path format) = Scan (option_map (λ p. p.now) path) (
 seen_request (request.Why q f) = Why (seen_question q) (seen_format f)
 seen_request (request.Who q f) = Who (seen_question q) (seen_format f)
 seen_request (request.Graph q f) = Graph (seen_question q) (seen_format f)
+seen_request (request.Rules q r) = Rules (seen_question q) (seen_rules r)
 seen_request (request.Cut q l f) = Cut (seen_question q) (seen_limits l) (seen_forms f)
 seen_request (request.Check q l certificate) = Check (seen_question q) (seen_limits l) certificate.now
 seen_request (request.Pp p) = Pp (seen_pp p)

@@ -2,12 +2,12 @@
 ghost use Rattle.std.specs.Prelude.{◌≡◌, ◌∷◌, [], IfOk};
 ghost use Rattle.clap.specs.Words.{app_of};
 ghost use Rattle.inc_args.specs.CommandLine as line;
-ghost use Rattle.inc_args.specs.CommandLine.{bound_rules, end_rules, file_rules, form_rules, format_rules, graph_rules, incut, limit_rules, list_rules, macro_rules, note_rules, output_rules, reach_rules, search_rules, strict_rules, who_rules, with_rules, drop_rules};
+ghost use Rattle.inc_args.specs.CommandLine.{bound_rules, end_rules, file_rules, form_rules, format_rules, graph_rules, incut, limit_rules, list_rules, macro_rules, note_rules, output_rules, reach_rules, rule_rules, search_rules, strict_rules, who_rules, with_rules, drop_rules};
 
 use crate::help::{
     ABOUT, ALL_HELP, CHECK_NOTES, CUT_NOTES, EXAMPLES, EXTENDED_HELP, FORMAT_HELP, GNU_HELP,
-    GRAPH_NOTES, HEADER_HELP, MAX_HELP, PP_NOTES, SCAN_FORMAT_HELP, SCAN_NOTES, SOURCES_HELP,
-    TO_HELP, UNDEFINED_HELP, VERSION, WHO_NOTES, WHY_NOTES,
+    GRAPH_NOTES, HEADER_HELP, MAX_HELP, PP_NOTES, RULES_NOTES, SCAN_FORMAT_HELP, SCAN_NOTES,
+    SOURCES_HELP, TO_HELP, UNDEFINED_HELP, VERSION, WHO_NOTES, WHY_NOTES,
 };
 use crate::options::{
     files, flag, null, option, optional_word, path, quiet, repeated, repeated_option, single,
@@ -232,6 +232,18 @@ fn with_sources<'a>(alloc: Global, command: Command<'a>) -> Result<Command<'a>, 
         .arg(repeated_option(alloc, "from", "GLOB", SOURCES_HELP))
 }
 
+/// Adds the rules, and what no build defines.
+fn with_rule_words<'a>(alloc: Global, command: Command<'a>) -> Result<Command<'a>, AllocError>
+    ensures { IfOk result (λ c. app_of c ≡ with_rules (app_of command.entry) rule_rules) }
+{
+    let rule = "Check RULE, as 'src/*.c must not reach net/**', without RULES (repeatable)";
+    let rules = "File with rules, one a line; `-` is standard input";
+    command
+        .arg(repeated_option(alloc, "undefined", "NAME", UNDEFINED_HELP))?
+        .arg(repeated(alloc, 'e', "rule", "RULE", rule))?
+        .arg(optional_word(alloc, "RULES", rules))
+}
+
 fn scan<'a>(alloc: Global) -> Result<Command<'a>, AllocError>
     ensures { IfOk result (λ c. app_of c ≡ line.scan) }
 {
@@ -283,6 +295,19 @@ fn graph<'a>(alloc: Global) -> Result<Command<'a>, AllocError>
         GRAPH_NOTES,
     )?;
     with_sources(alloc, with_strict(alloc, with_dropped(alloc, command)?)?)
+}
+
+fn rules<'a>(alloc: Global) -> Result<Command<'a>, AllocError>
+    ensures { IfOk result (λ c. app_of c ≡ line.rules) }
+{
+    let command = started(
+        alloc,
+        "rules",
+        "Check rules on what files may and must include",
+        RULES_NOTES,
+    )?;
+    let command = with_strict(alloc, with_dropped(alloc, command)?)?;
+    with_rule_words(alloc, with_notes(alloc, command)?)
 }
 
 fn cut<'a>(alloc: Global) -> Result<Command<'a>, AllocError>
@@ -341,7 +366,8 @@ fn with_views<'a>(alloc: Global, program: Command<'a>) -> Result<Command<'a>, Al
         .subcommand(scan(alloc)?)?
         .subcommand(why(alloc)?)?
         .subcommand(who(alloc)?)?
-        .subcommand(graph(alloc)?)
+        .subcommand(graph(alloc)?)?
+        .subcommand(rules(alloc)?)
 }
 
 /// Adds the commands that tell what to edit, check it, and preprocess.

@@ -44,6 +44,8 @@ pub(crate) const EXAMPLES: &str = "Examples:
       List the .c files that include net/api.h.
   incut graph -I include
       List all includes that the .c files reach.
+  incut rules -I include -e 'src/*.c must not reach include/private/**'
+      Check that no source of src includes a private header.
   incut cut -I include src/main.c net/api.h
       Find the fewest include directives to remove so that it no longer does.
   incut cut -I include --from 'src/*.c' --to 'include/private/*.h'
@@ -208,6 +210,39 @@ Sources are the .c files of the project, or those that --from stands for. The gl
 Includes inside #if groups are always listed, whether or not the group would be taken. --without
 names a file with directives to take as removed, one a line, --drop directives of files, and
 --undefined a macro that no build defines on its command line, as for `incut why`.";
+
+pub(crate) const RULES_NOTES: &str =
+    "Check rules on what files may and must include. RULES has one a line; a word that begins with #
+begins a comment:
+
+  lib/public/**  must not reach    lib/private/**
+  mm/*.c         must not reach    include/net/**   except mm/memcontrol.c
+  src/ui/**      must not include  src/db/**
+  src/*.c        must include      src/config.h     first
+
+Globs are those of `incut why`. A file reaches what it includes, directly or through other files. With
+`first` the first include of a file must be that of the right side. After `except` come globs of files
+that the rule is not about, separated by spaces or commas; nor is it about files of its right side.
+
+  incut rules -I include .incut-rules
+  incut rules -I include -e 'src/*.c must not reach include/private/**'
+
+  rules 4
+  broken 2
+  chains 1
+  chain 2
+  122 mm/slab.c
+  7 include/trace/events.h
+  files 0
+
+Each rule that is broken is printed by the number of its line: with the chains that may not be there,
+the first shortest one of each file, and with the files that do not include what they must. After the
+rules come `missing` and `blocked`, as `incut why` prints them: what these might lead to is not known.
+With --strict it is refused where a header is not found. The exit status is 1 where a rule is broken.
+
+Includes inside #if groups always count, whether or not the group would be taken. --without names a
+file with directives to take as removed, one a line, --drop directives of files, and --undefined a
+macro that no build defines on its command line, as for `incut why`.";
 
 pub(crate) const CUT_NOTES: &str =
     "Print the include directives to remove so that SOURCE no longer includes HEADER: as few as

@@ -14,5 +14,5 @@ pub use faults::ArgsFault;
 pub use reading::read_args;
 pub use requests::{
     Arguments, FileList, FormArgs, FormatArgs, LanguageArgs, LimitArgs, PpArgs, QuestionArgs,
-    Request,
+    Request, RuleArgs,
 };

@@ -4,15 +4,15 @@ ghost use Rattle.std.specs.Option.{option_map_or};
 ghost use Rattle.std.specs.String.{string_bytes};
 ghost use Rattle.clap.specs.Words.{all_of, first_of, found_of, rows_of, subcommand_rows_of};
 ghost use Rattle.inc_args.specs.Meaning as meaning;
-ghost use Rattle.inc_args.specs.Meaning.{asked_by, files_in, format_in, forms_in, is_given_in, languages_in, limits_in, meaning, meaning_of, preprocessing_in, question_in, value_of, values_of, who_in};
+ghost use Rattle.inc_args.specs.Meaning.{asked_by, files_in, format_in, forms_in, is_given_in, languages_in, limits_in, meaning, meaning_of, preprocessing_in, question_in, rules_in, value_of, values_of, who_in};
 ghost use Rattle.inc_args.specs.Refusals.{IsRefusal, refusals};
-ghost use Rattle.inc_args.specs.Views.{seen_arguments, seen_files, seen_format, seen_forms, seen_languages, seen_limits, seen_pp, seen_question, seen_request};
+ghost use Rattle.inc_args.specs.Views.{seen_arguments, seen_files, seen_format, seen_forms, seen_languages, seen_limits, seen_pp, seen_question, seen_request, seen_rules};
 
 use crate::commands::incut;
 use crate::faults::{ArgsFault, fault_of};
 use crate::requests::{
     Arguments, FileList, FormArgs, FormatArgs, LanguageArgs, LimitArgs, PpArgs, QuestionArgs,
-    Request,
+    Request, RuleArgs,
 };
 use clap::ArgMatches;
 use std::alloc::{AllocError, Global};
@@ -90,6 +90,7 @@ fn read_request<'a>(
         "why" => Ok(Request::Why(read_question(alloc, matches)?, read_format(matches, "all"))),
         "who" => Ok(Request::Who(read_who(alloc, matches)?, read_format(matches, "chains"))),
         "graph" => Ok(Request::Graph(read_who(alloc, matches)?, read_format(matches, "all"))),
+        "rules" => Ok(Request::Rules(read_question(alloc, matches)?, read_rules(alloc, matches)?)),
         "cut" => Ok(Request::Cut(
             read_question(alloc, matches)?,
             read_limits(alloc, matches)?,
@@ -179,6 +180,15 @@ fn all_sources(build: Option<&str>) -> &'static str
         Some(_) => "**",
         None => "**.c",
     }
+}
+
+fn read_rules<'a>(alloc: Global, matches: &ArgMatches<'a>) -> Result<RuleArgs<'a>, AllocError>
+    ensures { IfOk result (λ r. seen_rules r ≡ rules_in (rows_of (found_of matches.now))) }
+{
+    Ok(RuleArgs {
+        file: given(matches, "RULES"),
+        rules: values(alloc, matches, "rule")?,
+    })
 }
 
 fn read_limits<'a>(alloc: Global, matches: &ArgMatches<'a>) -> Result<LimitArgs<'a>, AllocError>

@@ -33,6 +33,8 @@ pub enum Request<'a> {
     Who(QuestionArgs<'a>, FormatArgs<'a>),
     /// List the edges that sources reach.
     Graph(QuestionArgs<'a>, FormatArgs<'a>),
+    /// Tell which rules are broken.
+    Rules(QuestionArgs<'a>, RuleArgs<'a>),
     /// Find the fewest include directives to remove so that a source no longer includes a header.
     Cut(QuestionArgs<'a>, LimitArgs<'a>, FormArgs<'a>),
     /// Check this certificate of such a cut.
@@ -85,6 +87,15 @@ pub struct QuestionArgs<'a> {
     pub external: Vec<&'a str>,
     /// The names that no build defines.
     pub undefined: Vec<&'a str>,
+}
+
+/// The words of rules.
+#[derive(Drop)]
+pub struct RuleArgs<'a> {
+    /// The file that has them; `-` is standard input.
+    pub file: Option<&'a str>,
+    /// Those that are words themselves.
+    pub rules: Vec<&'a str>,
 }
 
 /// The words of what limits a cut.

@@ -7,7 +7,6 @@ use Rattle.inc_graph.specs.Marks.{Cost, Mark}
 use Rattle.inc_args.specs.Meaning.{Limits, Question}
 use Rattle.inc_inputs.specs.BuildProjects.{Added}
 use Rattle.inc_inputs.specs.Ends.{EndPaths}
-use Rattle.inc_inputs.specs.HeaderNames.{header_notes}
 use Rattle.inc_inputs.specs.IncludePath.{include_path}
 use Rattle.inc_inputs.specs.Inputs.{Gives}
 use Rattle.inc_inputs.specs.NamedPlaces.{Marked}
@@ -16,7 +15,7 @@ use Rattle.inc_inputs.specs.ProjectLists.{paths_in}
 use Rattle.inc_inputs.specs.Steps.{Step, comes_to, then}
 use Rattle.inc_inputs.specs.Texts.{Texts}
 use Rattle.inc_cli.specs.Commands.{Command}
-use Rattle.inc_cli.specs.Runs.{Asked, Built, Opened, asked_built, asked_for, asked_marked, asked_opened, built_by, opened_by}
+use Rattle.inc_cli.specs.Runs.{Asked, Built, Opened, asked_built, asked_for, asked_marked, asked_opened, built_by, notes_for, opened_by}
 
 -- texts that were read
 abbrev pub texts_with : (list : List ℕ) (fixed without : List Mark) (costs : List ℕ) → Texts
@@ -30,7 +29,7 @@ opened_made q t paths costs undefined external strict path a b c d e = rw (a, b,
 
 -- once the places are known, once sources and headers are, once all marks are, once the include paths are, and once the costs are
 abbrev pub with_places : {S : Type 0} → Language → Command → Question → Opened → Layout → Built → EndPaths → Places → Step S Asked
-with_places language command q o layout b ends places = comes_to (Ok (asked_for language command o layout b ends places (b.notes ++ header_notes layout q)))
+with_places language command q o layout b ends places = comes_to (Ok (asked_for language command o layout b ends places (b.notes ++ notes_for command layout q)))
 
 abbrev pub with_ends : {S : Type 0} → Language → Command → Question → Limits → (without fixed : List Mark) → Opened → Layout → Built → EndPaths → Step S Asked
 with_ends language command q l without fixed o layout b ends =

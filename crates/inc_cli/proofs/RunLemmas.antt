@@ -121,3 +121,11 @@ run_reported {S} {A} o report step P old out answer e f keeps =
 pub run_failed : {S A : Type 0} (report : Report) (P : Following S A) (old : S) (out : Output) (answer : Result Answer Report)
     → answer ≡ Err report → Keeps out.before out.after → IsRun (comes_to (Err report)) P old out answer
 run_failed report P old out answer f keeps = record { asked = Err report; mid = old; reads = (refl, refl); follows = (f, keeps) }
+
+module _ {S A : Type 0} (J : Result A Report → Type 0) (P : Following S A) (old : S) (out : Output) (answer : Result Answer Report) where
+  -- what is judged is followed at once
+  pub run_told : (a : A) → J (Ok a) → P a old out answer → IsRun (judged J) P old out answer
+  run_told a j p = record { asked = Ok a; mid = old; reads = (j, refl); follows = p }
+
+  pub run_told_err : (r : Report) → J (Err r) → answer ≡ Err r → Keeps out.before out.after → IsRun (judged J) P old out answer
+  run_told_err r j f keeps = record { asked = Err r; mid = old; reads = (j, refl); follows = (f, keeps) }

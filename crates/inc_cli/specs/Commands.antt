@@ -1,5 +1,6 @@
 -- The commands that ask about sources and headers.
 use Rattle.std.specs.Prelude.{ℕ, Bool, true, false, List, Option, Some, None, if◌then◌else◌}
+use Rattle.inc_rules.specs.Rules.{Rule}
 use Rattle.inc_report.specs.NamedText.{asks_headers}
 use Rattle.inc_report.specs.declared.named.NamedForm.{NamedForm}
 
@@ -18,6 +19,8 @@ pub data Command : Type 0 where
   Patch : Command
   -- why, which edges, or which directives to remove, with directives as they are written
   Named : NamedForm → Command
+  -- which of these rules are broken; their list has this name
+  Rules : (name : List ℕ) → List Rule → Command
   -- of the certificate that this word names
   Check : (name : List ℕ) → Command
 
@@ -32,10 +35,16 @@ abbrev pub certificate_of : Command → Option (List ℕ)
 certificate_of (Check name) = Some name
 certificate_of _ = None
 
+-- the name of a list of rules
+abbrev pub rules_name : Command → Option (List ℕ)
+rules_name (Rules name rules) = Some name
+rules_name _ = None
+
 -- whether it is about headers, too
 abbrev pub has_headers : Command → Bool
 has_headers Graph = false
 has_headers (Named form) = asks_headers form.asked
+has_headers (Rules name rules) = false
 has_headers _ = true
 
 -- the paths of the headers, where it is about some

@@ -15,10 +15,12 @@ use Rattle.inc_report.specs.declared.named.Format.{Format}
 use Rattle.inc_report.specs.declared.named.Format.TheVariants.{Gcc, Json, Dot}
 use Rattle.inc_report.specs.declared.scan.ScanForm.{ScanForm}
 use Rattle.inc_report.specs.declared.scan.ScanForm.TheVariants as form
-use Rattle.inc_cli.specs.Commands.{Blank, Check, Command, Cut, Graph, Named, Patch, Who, Why, bounded}
+use Rattle.inc_rules.specs.Rules.{Rule}
+use Rattle.inc_inputs.specs.RuleLists.{rule_name, rules_given}
+use Rattle.inc_cli.specs.Commands.{Blank, Check, Command, Cut, Graph, Named, Patch, Rules, Who, Why, bounded}
 use Rattle.inc_cli.specs.Languages.{language_of}
 use Rattle.inc_cli.specs.Notes.{notes_if}
-use Rattle.inc_cli.specs.Outputs.{Answer, Follows, IsRun, Output}
+use Rattle.inc_cli.specs.Outputs.{Answer, Following, Follows, IsRun, Output}
 use Rattle.inc_cli.specs.Preprocessings.{IsPreprocessed, pp_of}
 use Rattle.inc_cli.specs.Questions.{IsAsked, Known, Content, Promise, Opens}
 use Rattle.inc_inputs.specs.Ends.{are_ends}
@@ -96,6 +98,10 @@ form_of is_terminal f =
 abbrev pub who_of : (is_terminal : Bool) → args.Question → args.Format → Result Command Report
 who_of is_terminal q f = if are_ends q then formatted is_terminal f (Who f.is_all f.fails None) asked.Who else Err no_headers
 
+-- which rules are broken, once they are known
+abbrev pub IsRuledBy : {S T : Type 0} → Gives S → Opens S T → Language → args.Question → args.Limits → (name : List ℕ) → Following S (List Rule)
+IsRuledBy gives o language q l name rules = IsAskedBy Content gives o language (Rules name rules) q l
+
 -- what words ask for is answered
 abbrev pub IsAnswerTo : {S T : Type 0} → Gives S → Puts S → Opens S T → Language → (is_terminal : Bool) → args.Asked → (old : S) → Output → Result Answer Report → Type 0
 IsAnswerTo gives puts o language is_terminal (args.Scan path format) old out answer =
@@ -106,6 +112,8 @@ IsAnswerTo gives puts o language is_terminal (args.Who q f) old out answer =
     Follows (λ command. IsAskedBy Content gives o language command q no_limits) (who_of is_terminal q f) old out answer
 IsAnswerTo gives puts o language is_terminal (args.Graph q f) old out answer =
     Follows (λ command. IsAskedBy Content gives o language command q no_limits) (formatted is_terminal f Graph asked.Graph) old out answer
+IsAnswerTo gives puts o language is_terminal (args.Rules q w) old out answer =
+    IsRun (rules_given gives w) (IsRuledBy gives o language q no_limits (rule_name w)) old out answer
 IsAnswerTo gives puts o language is_terminal (args.Cut q l f) old out answer =
     Follows (λ command. IsAskedBy Content gives o language command q l) (form_of is_terminal f) old out answer
 IsAnswerTo gives puts o language is_terminal (args.Check q l name) old out answer = IsAskedBy Content gives o language (Check name) q l old out answer

@@ -14,6 +14,7 @@ use Rattle.inc_report.specs.NamedHeadline.{NamedHeadline}
 use Rattle.inc_report.specs.NamedText.{IsNamedBy}
 use Rattle.inc_report.specs.Printed.{Printed}
 use Rattle.inc_report.specs.Questions.{FailsAt}
+use Rattle.inc_report.specs.RulesText.{IsRulesBy}
 use Rattle.inc_report.specs.WhoText.{IsWhoBy}
 use Rattle.inc_report.specs.WhyText.{IsWhyBy}
 use Rattle.inc_report.specs.Writing.{Writes, is_of_certificate, unread_of}
@@ -23,7 +24,7 @@ use Rattle.inc_inputs.specs.Inputs.{Gives, listed}
 use Rattle.inc_inputs.specs.declared.failures.Hindrance.{Hindrance}
 use Rattle.inc_inputs.specs.Reports.{Report}
 use Rattle.inc_inputs.specs.Steps.{Step}
-use Rattle.inc_cli.specs.Commands.{Command, Why, Who, Graph, Cut, Blank, Patch, Named, Check, certificate_of}
+use Rattle.inc_cli.specs.Commands.{Command, Why, Who, Graph, Cut, Blank, Patch, Named, Rules, Check, certificate_of}
 use Rattle.inc_cli.specs.Outputs.{Answer, IsRun, Output, ended}
 use Rattle.inc_cli.specs.Runs.{Asked}
 
@@ -49,6 +50,7 @@ IsPrinted gives o Cut a old new p = OfFiles gives a old new (IsCutBy a.question 
 IsPrinted gives o Blank a old new p = OfFiles gives a old new (IsBlankBy a.question a.limits p)
 IsPrinted gives o Patch a old new p = OfFiles gives a old new (IsPatchBy a.question a.limits p)
 IsPrinted gives o (Named form) a old new p = OfFiles gives a old new (IsNamedBy form a.question a.limits p)
+IsPrinted gives o (Rules name rules) a old new p = OfFiles gives a old new (IsRulesBy rules a.question p)
 IsPrinted gives o (Check name) a old new p =
     OfCertificate o old name (λ text. OfFiles gives a old new (IsCheckBy a.question a.limits text p))
 
@@ -62,6 +64,7 @@ IsPromised gives o Cut a old new p = OfFiles gives a old new (λ given listing. 
 IsPromised gives o Blank a old new p = OfFiles gives a old new (λ given listing. BlankHeadline a.question a.limits p listing)
 IsPromised gives o Patch a old new p = OfFiles gives a old new (λ given listing. PatchHeadline a.question a.limits p listing)
 IsPromised gives o (Named form) a old new p = OfFiles gives a old new (λ given listing. NamedHeadline form a.question a.limits p listing)
+IsPromised gives o (Rules name rules) a old new p = Unit {0}
 IsPromised gives o (Check name) a old new p =
     OfCertificate o old name (λ text. OfFiles gives a old new (λ given listing. CheckHeadline a.question a.limits text p listing))
 

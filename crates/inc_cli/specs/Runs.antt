@@ -1,5 +1,5 @@
 -- What is asked about sources and headers, by the words and by the texts that they name.
-use Rattle.std.specs.Prelude.{◌≡◌, ◌⊎◌, ℕ, Bool, ◌&&◌, not, List, [], ◌∷◌, ◌++◌, Option, Some, None, Ok, Err, unwrap_or}
+use Rattle.std.specs.Prelude.{◌≡◌, ◌⊎◌, ℕ, Bool, ◌&&◌, not, List, [], ◌∷◌, ◌++◌, Option, Some, None, Result, Ok, Err, unwrap_or}
 use Rattle.inc_text.specs.declared.languages.Language.{Language}
 use Rattle.inc_lookup.specs.IncludePath.{NamedPath}
 use Rattle.inc_lookup.specs.Projects.{Layout, SearchPath}
@@ -20,7 +20,8 @@ use Rattle.inc_inputs.specs.BuildPlaces.{include_paths_of, read_with}
 use Rattle.inc_inputs.specs.BuildSteps.{found_if}
 use Rattle.inc_inputs.specs.HeaderNames.{header_notes}
 use Rattle.inc_inputs.specs.ExternalNames.{named_report}
-use Rattle.inc_cli.specs.Commands.{Command, certificate_of, has_headers, headers_of}
+use Rattle.inc_inputs.specs.RuleLists.{rule_ends}
+use Rattle.inc_cli.specs.Commands.{Command, Rules, certificate_of, has_headers, headers_of, rules_name}
 
 -- what a question about a project is asked of
 pub record Asked : Type 0 where
@@ -32,10 +33,20 @@ pub record Asked : Type 0 where
   -- what is noted of a build and of the words for headers
   pub notes : List ℕ
 
+-- between which files a command is asked: where it is about rules, from those that these are about
+abbrev pub ends_for : Command → Layout → Question → Result EndPaths Report
+ends_for (Rules name rules) layout q = rule_ends layout rules
+ends_for command layout q = asked_ends layout q
+
+-- what is noted of the words that name them
+abbrev pub notes_for : Command → Layout → Question → List ℕ
+notes_for (Rules name rules) layout q = []
+notes_for command layout q = header_notes layout q
+
 -- the words of a question name no sources and headers, or no directives, for this reason
-abbrev pub IsUnplaced : Layout → Question → Limits → (without fixed : List Mark) → Report → Type 0
-IsUnplaced layout q l without fixed r =
-    (asked_ends layout q ≡ Err r) ⊎ ((ends : EndPaths) × (asked_ends layout q ≡ Ok ends) × (places_of layout q l without fixed ≡ Err r))
+abbrev pub IsUnplaced : Command → Layout → Question → Limits → (without fixed : List Mark) → Report → Type 0
+IsUnplaced command layout q l without fixed r =
+    (ends_for command layout q ≡ Err r) ⊎ ((ends : EndPaths) × (ends_for command layout q ≡ Ok ends) × (places_of layout q l without fixed ≡ Err r))
 
 -- what texts and words hold, whatever the project
 pub record Opened : Type 0 where
@@ -95,9 +106,9 @@ built_by layout a others = record { others = others; read_with = read_with layou
 -- once that is known, and all marks
 abbrev pub asked_marked : {S : Type 0} → Language → Command → Question → Limits → (without fixed : List Mark) → Opened → Layout → Built → Step S Asked
 asked_marked language command q l without fixed o layout b =
-    then (comes_to (asked_ends layout q)) (λ ends.
+    then (comes_to (ends_for command layout q)) (λ ends.
     then (comes_to (places_of layout q l without fixed)) (λ places.
-    comes_to (Ok (asked_for language command o layout b ends places (b.notes ++ header_notes layout q)))))
+    comes_to (Ok (asked_for language command o layout b ends places (b.notes ++ notes_for command layout q)))))
 
 -- the project of which a question is asked, whose files are read under the paths of the list
 abbrev pub listed_by : Language → Opened → Layout → Listed
@@ -124,9 +135,9 @@ asked_by gives language command q l a texts =
     then (judged (AreCosts (unwrap_or l.costs []) texts.costs)) (λ costs.
     asked_opened gives language command q l a texts.without texts.fixed (opened_by q texts costs))
 
--- the words that name what is read for a question, with that of a certificate
+-- the words that name what is read for a question, with that of a certificate and that of rules
 abbrev pub list_names : Command → Question → Limits → List (Option (List ℕ))
-list_names command q l = q.files.list ∷ q.without ∷ l.fixed ∷ l.costs ∷ certificate_of command ∷ []
+list_names command q l = q.files.list ∷ q.without ∷ l.fixed ∷ l.costs ∷ certificate_of command ∷ rules_name command ∷ []
 
 -- of the project that a build names, with its words in place of those of the question
 abbrev pub asked_found : {S : Type 0} → Gives S → Language → Command → Question → Limits → Found → Step S Asked

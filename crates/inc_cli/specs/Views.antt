@@ -1,6 +1,7 @@
 -- What functions of the program give, as the definitions see it.
 use Rattle.std.specs.Prelude.{ℕ, Bool, List, Option, Result, map}
 use Rattle.inc_lookup.specs.Projects.{Layout}
+use Rattle.inc_rules.specs.Views.{seen_rule}
 use Rattle.inc_report.specs.Terms.{Question, Limits, PpQuestion}
 use Rattle.inc_report.specs.declared.outcome.End.{End}
 use Rattle.inc_inputs.specs.Reports.{Report}
@@ -31,6 +32,7 @@ seen_command command.Cut = commands.Cut
 seen_command command.Blank = commands.Blank
 seen_command command.Patch = commands.Patch
 seen_command (command.Named form) = commands.Named form
+seen_command (command.Rules name rules) = commands.Rules name.now (map seen_rule rules.now)
 seen_command (command.Check name) = commands.Check name.now
 
 -- what is asked of files with these paths, beside these notes

@@ -10,6 +10,7 @@ mod notes;
 mod pp;
 mod questions;
 mod reports;
+mod rules;
 mod runs;
 mod scan;
 

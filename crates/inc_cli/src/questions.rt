@@ -1,14 +1,13 @@
 //! Questions about sources and headers of a project.
 ghost use Rattle.std.specs.Prelude.{◌≡◌, ◌≢◌, ◌&&◌, ◌++◌, not, [], ℕ, List, Err, None, Ok, false, IfErr, IfOk, map, option_map, unwrap_or};
 ghost use Rattle.inc_args.specs.Views.{seen_limits, seen_question};
-ghost use Rattle.inc_inputs.specs.Ends.{are_ends, asked_ends};
-ghost use Rattle.inc_inputs.specs.HeaderNames.{header_notes};
+ghost use Rattle.inc_inputs.specs.Ends.{are_ends};
 ghost use Rattle.inc_inputs.specs.Inputs.{listed};
-ghost use Rattle.inc_cli.specs.Commands.{bounded, certificate_of, has_headers, headers_of};
+ghost use Rattle.inc_cli.specs.Commands.{bounded, certificate_of, has_headers, headers_of, rules_name};
 ghost use Rattle.inc_cli.specs.Outputs.{ended};
 ghost use Rattle.inc_cli.specs.Questions.{IsAnswered, IsAsked, IsKnown, Known, Prints};
 ghost use Rattle.inc_inputs.specs.Reports.{out_of_memory, report_of};
-ghost use Rattle.inc_cli.specs.Runs.{IsUnplaced, asked_built, asked_by, asked_for, asked_found, asked_listed, asked_marked, asked_named, asked_of, built_by, listed_by};
+ghost use Rattle.inc_cli.specs.Runs.{IsUnplaced, asked_built, asked_by, asked_for, asked_found, asked_listed, asked_marked, asked_named, asked_of, built_by, ends_for, listed_by, notes_for};
 ghost use Rattle.inc_inputs.specs.BuildPlaces.{include_paths_of};
 ghost use Rattle.inc_inputs.specs.Places.{places_of};
 ghost use Rattle.inc_inputs.specs.ProjectLists.{paths_in};
@@ -16,7 +15,7 @@ ghost use Rattle.inc_inputs.specs.IncludePath.{include_path};
 ghost use Rattle.inc_inputs.specs.NamedPlaces.{named_places};
 ghost use Rattle.inc_inputs.specs.Steps.{Comes, next_of};
 ghost use Rattle.inc_inputs.specs.Texts.{AreCosts};
-ghost use Rattle.inc_inputs.specs.Views.{added_in, end_paths_in, places_in, project_in, seen_marked, seen_texts};
+ghost use Rattle.inc_inputs.specs.Views.{added_in, end_paths_in, places_in, project_in, seen_ends, seen_marked, seen_texts};
 ghost use Rattle.inc_cli.specs.Views.{asked_in, built_in, opened_in, output_of, seen_command, seen_end};
 ghost use Rattle.inc_report.specs.Questions.{FailsAt};
 ghost use Rattle.inc_report.specs.Writing.{is_of_certificate};
@@ -30,13 +29,14 @@ use inc_inputs::{
     Added, BuildProject, EndPaths, Failure, Hindrance, Inputs, Listed, ListedFiles, Marked, Places,
     Texts, are_ends, are_twice, asked_ends, asked_places, bytes_of_words, costs_of, find_question,
     include_path, list_paths, listed_project, named_failure, named_places, other_paths,
-    path_end_in, read_texts, read_texts_beside, read_with,
+    path_end_in, read_texts, read_texts_beside, read_with, rule_ends,
 };
 use inc_lookup::{IncludePath, NamedPath, Project};
 use inc_report::{
     End, Limits, NamedForm, Question, RunFault, run_blank, run_check, run_cut, run_graph,
-    run_named, run_patch, run_who, run_why,
+    run_named, run_patch, run_rules, run_who, run_why,
 };
+use inc_rules::Rule;
 use inc_text::ByteSink;
 use std::alloc::{AllocError, Global};
 use std::mem::replace;
@@ -59,6 +59,8 @@ pub(crate) enum Command<'a> {
     Patch,
     /// Why the sources include the headers, which edges they reach, or which directives to remove, with directives as they are written.
     Named(NamedForm),
+    /// Which of these rules are broken; their list has this name.
+    Rules(&'a str, &'a [Rule<'a>]),
     /// Whether the certificate that this word names shows a smallest cut.
     Check(&'a str),
 }
@@ -85,12 +87,22 @@ impl<'a> Command<'a> {
         }
     }
 
+    /// The name of a list of rules.
+    fn rules_name(self) -> Option<&'a str>
+        ensures { option_map (λ n. n.now) result ≡ rules_name (seen_command self.entry) }
+    {
+        match self {
+            Command::Rules(name, _) => Some(name),
+            _ => None,
+        }
+    }
+
     /// Whether it is about headers, too.
     fn has_headers(self) -> bool
         ensures { result ≡ has_headers (seen_command self.entry) }
     {
         match self {
-            Command::Graph => false,
+            Command::Graph | Command::Rules(..) => false,
             Command::Named(form) => form.asked.has_headers(),
             _ => true,
         }
@@ -187,6 +199,7 @@ fn ask_named<I: Inputs, O: ByteSink>(
         asking.limits.fixed,
         asking.limits.costs,
         asking.command.certificate(),
+        asking.command.rules_name(),
     ];
     if are_twice(&names) {
         return (Err(Failure::InputTwice), out);
@@ -398,7 +411,7 @@ fn ask_marked<'p, I: Inputs, O: ByteSink>(
         question,
         limits,
     } = asking;
-    let placed = match place_words(setup.alloc, project, question, limits, marks) {
+    let placed = match place_words(setup.alloc, command, project, question, limits, marks) {
         Ok(placed) => placed,
         Err(failure) => return (Err(failure), out),
     };
@@ -533,19 +546,20 @@ struct Placed<'p> {
 /// Both by the words of a question, and by marks that are known.
 fn place_words<'p>(
     alloc: Global,
+    command: Command<'_>,
     project: &'p Project<'_>,
     question: &QuestionArgs<'p>,
     limits: &LimitArgs<'p>,
     marks: Marked,
 ) -> Result<Placed<'p>, Failure>
-    ensures ends { IfOk result (λ p. asked_ends project.now (seen_question question.now) ≡ Ok (end_paths_in p.ends)) }
+    ensures ends { IfOk result (λ p. ends_for (seen_command command.entry) project.now (seen_question question.now) ≡ Ok (end_paths_in p.ends)) }
     ensures places { IfOk result (λ p. places_of project.now (seen_question question.now) (seen_limits limits.now) marks.without.items marks.fixed.items
         ≡ Ok (places_in p.places)) }
-    ensures notes { IfOk result (λ p. p.ends.notes.items ≡ header_notes project.now (seen_question question.now)) }
-    ensures fault { IfErr result (λ f. report_of f ≢ out_of_memory → IsUnplaced project.now (seen_question question.now) (seen_limits limits.now)
+    ensures notes { IfOk result (λ p. p.ends.notes.items ≡ notes_for (seen_command command.entry) project.now (seen_question question.now)) }
+    ensures fault { IfErr result (λ f. report_of f ≢ out_of_memory → IsUnplaced (seen_command command.entry) project.now (seen_question question.now) (seen_limits limits.now)
         marks.without.items marks.fixed.items (report_of f)) }
 {
-    let ends = match asked_ends(alloc, project, question) {
+    let ends = match ends_for(alloc, command, project, question) {
         Ok(ends) => ends,
         Err(failure) => return Err(failure),
     };
@@ -553,6 +567,23 @@ fn place_words<'p>(
     match asked_places(alloc, project, question, limits, without, fixed) {
         Ok(places) => Ok(Placed { ends, places }),
         Err(failure) => Err(failure),
+    }
+}
+
+/// Between which files a command is asked.
+fn ends_for<'p>(
+    alloc: Global,
+    command: Command<'_>,
+    project: &'p Project<'_>,
+    question: &QuestionArgs<'p>,
+) -> Result<EndPaths<'p>, Failure>
+    ensures ends { seen_ends result ≢ Err out_of_memory →
+        seen_ends result ≡ ends_for (seen_command command.entry) project.now (seen_question question.now) }
+    ensures notes { IfOk result (λ ends. ends.notes.items ≡ notes_for (seen_command command.entry) project.now (seen_question question.now)) }
+{
+    match command {
+        Command::Rules(_, rules) => rule_ends(alloc, project, rules),
+        _ => asked_ends(alloc, project, question),
     }
 }
 
@@ -637,6 +668,7 @@ fn answer<I: Inputs, O: ByteSink>(
             let (ended, _, out) = run_named(alloc, project, files, question, limits, form, out);
             (ended, out)
         }
+        Command::Rules(_, rules) => { run_rules(alloc, project, &mut files, question, rules, out) }
         Command::Check(name) => match files.inputs.open(alloc, name) {
             Ok(stream) => {
                 let mut stream = stream;

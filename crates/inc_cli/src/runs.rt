@@ -15,6 +15,7 @@ use crate::notes::note;
 use crate::pp::preprocess;
 use crate::questions::{Command, ask};
 use crate::reports::report;
+use crate::rules::ask_rules;
 use crate::scan::list_directives;
 use clap::Error;
 use inc_args::{
@@ -248,6 +249,9 @@ fn answer_in<I: Inputs, O: ByteSink>(
                 Ok(command) => ask(setup, command, question, &no_limits, inputs, out),
                 Err(failure) => (Err(failure), out),
             }
+        }
+        Request::Rules(question, words) => {
+            ask_rules(setup, question, words, &no_limits, inputs, out)
         }
         Request::Cut(question, limits, forms) => match form_of(setup.is_terminal, *forms) {
             Ok(command) => {

@@ -131,7 +131,7 @@ order-lower file later es le h =
       rising = h.rising;
     }
 
-rising-cons : (x : ℕ) (xs : List ℕ) → All (λ y. x ≤ y) xs → IsNonDecreasing xs → IsNonDecreasing (x ∷ xs)
+pub rising-cons : (x : ℕ) (xs : List ℕ) → All (λ y. x ≤ y) xs → IsNonDecreasing xs → IsNonDecreasing (x ∷ xs)
 rising-cons x xs above rising zero zero d h low = omega arith
 rising-cons x xs above rising zero (suc j) d h low = above j d (omega arith)
 rising-cons x xs above rising (suc i) zero d h low = absurd (omega arith)

@@ -16,7 +16,7 @@ use Rattle.inc_graph.specs.GraphLists.{bad_state, bad_states, first_refusal, is_
 
 ---- numbers
 
-numbered_from_push : (n m : ℕ) (es : List Edge) (e : Edge) → n + length es ≡ m → numbered_from n (es ++ e ∷ []) ≡ numbered_from n es ++ record { id = m; from = e.from; to = e.to; line = e.line } ∷ []
+pub numbered_from_push : (n m : ℕ) (es : List Edge) (e : Edge) → n + length es ≡ m → numbered_from n (es ++ e ∷ []) ≡ numbered_from n es ++ record { id = m; from = e.from; to = e.to; line = e.line } ∷ []
 numbered_from_push n m [] e h =
     let same : n ≡ m = omega arith in
     ap (λ k. record { id = k; from = e.from; to = e.to; line = e.line } ∷ []) same

@@ -57,3 +57,6 @@ pub mod BackSearch
 pub mod FirstSteps
 pub mod NearestWalks
 pub mod KeptLemmas
+pub mod BetweenLemmas
+pub mod BetweenNumbers
+pub mod BetweenWalks

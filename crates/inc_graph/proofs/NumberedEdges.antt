@@ -32,10 +32,10 @@ pub record IsFirstFrom (all : List Edge) (p : declared.Edge → Bool) (n : ℕ) 
 pub from_first : (all : List Edge) (p : declared.Edge → Bool) → AreFrom all p 0 (filter p (numbered all))
 from_first all p = record { edges = all; are = refl; each = λ j. rw zero-add refl }
 
-shifted : (all : List Edge) (n : ℕ) (x : Edge) (xs : List Edge) → ((j : ℕ) → slice_get (x ∷ xs) j ≡ slice_get all (n + j)) → (j : ℕ) → slice_get xs j ≡ slice_get all (n + 1 + j)
+pub shifted : (all : List Edge) (n : ℕ) (x : Edge) (xs : List Edge) → ((j : ℕ) → slice_get (x ∷ xs) j ≡ slice_get all (n + j)) → (j : ℕ) → slice_get xs j ≡ slice_get all (n + 1 + j)
 shifted all n x xs each j = let e : n + suc j ≡ n + 1 + j = omega arith in each (suc j) ∙ ap (slice_get all) e
 
-head_at : (all : List Edge) (n : ℕ) (x : Edge) (xs : List Edge) → ((j : ℕ) → slice_get (x ∷ xs) j ≡ slice_get all (n + j)) → slice_get all n ≡ Some x
+pub head_at : (all : List Edge) (n : ℕ) (x : Edge) (xs : List Edge) → ((j : ℕ) → slice_get (x ∷ xs) j ≡ slice_get all (n + j)) → slice_get all n ≡ Some x
 head_at all n x xs each = let e : n ≡ n + 0 = omega arith in ap (slice_get all) e ∙ sym (each 0)
 
 pub first_from : (all : List Edge) (p : declared.Edge → Bool) (n : ℕ) (e : declared.Edge) (rest : List declared.Edge) (edges : List Edge)

@@ -93,7 +93,7 @@ all_within of from h listing starts headers =
     All-flat_map (λ x. of x < length listing.files) (λ f. (f < length listing.files) × (is_member f headers ≡ false)) from
     (λ f q. λ k d low. let at = h f k d low in omega (arith, at, q.0)) (inner_files listing starts headers) (inner_within listing starts headers)
 
-from_seen : (items : List declared.Edge) → map (λ (e : declared.Edge). e.from) items ≡ map (λ (e : Edge). e.from) (map seen_edge items)
+pub from_seen : (items : List declared.Edge) → map (λ (e : declared.Edge). e.from) items ≡ map (λ (e : Edge). e.from) (map seen_edge items)
 from_seen [] = refl
 from_seen (e ∷ es) = ap (◌∷◌ e.from) (from_seen es)
 

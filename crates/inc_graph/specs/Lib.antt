@@ -6,6 +6,7 @@ pub mod MissingLists
 pub mod FileEntries
 pub mod IncludeGraph
 pub mod Chains
+pub mod Between
 pub mod Reaching
 pub mod ChainLists
 pub mod Indexes

@@ -1,6 +1,8 @@
 //! The include graph of a project: which include directives lead from file to file, and by which headers reach sources.
 #![tactic(auto)]
 
+mod between;
+pub mod between_laws;
 mod building;
 mod chains;
 mod costs;
@@ -26,6 +28,7 @@ pub mod set_laws;
 mod settings;
 mod two_way;
 
+pub use between::Between;
 pub use building::{GraphRefusal, Source};
 pub use chains::{Chain, ShortestChains, SourceChains};
 pub use costs::Cost;

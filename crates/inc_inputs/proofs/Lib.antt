@@ -20,6 +20,7 @@ pub mod PlaceLemmas
 pub mod PlaceMarks
 pub mod PrintedMarks
 pub mod ProjectLemmas
+pub mod RuleLines
 pub mod QuestionLemmas
 pub mod SourceLemmas
 pub mod StepLemmas

@@ -21,6 +21,7 @@ pub mod PpTexts
 pub mod ProjectLists
 pub mod Questions
 pub mod Reports
+pub mod RuleLists
 pub mod Steps
 pub mod Texts
 pub mod UndefinedNames

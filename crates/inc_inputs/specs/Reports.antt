@@ -5,6 +5,8 @@ use Rattle.inc_lookup.specs.declared.projects.ProjectFault.TheVariants as projec
 use Rattle.inc_text.specs.declared.devices.ReadFault.{ReadFault}
 use Rattle.inc_text.specs.declared.devices.ReadFault.TheVariants as read
 use Rattle.inc_check.specs.declared.read_texts.CertFault.{CertFault}
+use Rattle.inc_rules.specs.RuleTexts.{fault_words}
+use Rattle.inc_rules.specs.Rules.{Fault}
 use Rattle.inc_check.specs.declared.read_texts.CertFault.TheVariants as list
 use Rattle.inc_inputs.specs.declared.failures.Failure.{Failure}
 use Rattle.inc_inputs.specs.declared.failures.Failure.TheVariants as failure
@@ -142,6 +144,16 @@ several_headers word first second =
 abbrev pub no_source_left : Report
 no_source_left = record { message = codes "each file of --from is one of --to"; status = 4 }
 
+abbrev pub no_rules : Report
+no_rules = record { message = codes "name RULES, or give rules with -e"; status = 2 }
+
+-- of a line of a list of rules
+abbrev pub malformed_rules : (name : List ℕ) → (line : ℕ) → Fault → Report
+malformed_rules name line f = record { message = shown name ++ codes ":" ++ decimal line ++ codes ": " ++ shown (fault_words f); status = 4 }
+
+abbrev pub no_subject : Report
+no_subject = record { message = codes "no rule is about a file of the project"; status = 4 }
+
 abbrev pub not_utf8 : Report
 not_utf8 = record { message = codes "an argument is not UTF-8"; status = 2 }
 
@@ -178,6 +190,9 @@ report_of (failure.Build text) = record { message = text.items; status = 2 }
 report_of (failure.FitsNone text) = record { message = text.items; status = 4 }
 report_of (failure.SeveralHeaders text) = record { message = codes "several files end in " ++ text.items; status = 4 }
 report_of failure.NoSourceLeft = no_source_left
+report_of failure.NoRules = no_rules
+report_of (failure.MalformedRules text) = record { message = text.items; status = 4 }
+report_of failure.NoSubject = no_subject
 report_of failure.NoMemory = out_of_memory
 
 -- the line on standard error

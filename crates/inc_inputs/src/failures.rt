@@ -1,9 +1,10 @@
 //! Why the program gives no answer, and what it reports of that.
 ghost use Rattle.std.specs.Prelude.{◌≡◌, ◌≢◌, ◌<◌, ◌++◌, [], IfOk, OnOk, map, slice_index_or, codes, decimal};
-ghost use Rattle.inc_inputs.specs.Reports.{about_option, bad_glob, fits_none, hex_digit, hindrance_text, no_directive, no_line, out_of_memory, report_of, read_report, list_report, compiler_report, definitions_report, project_report, several_headers, shown, shown_byte};
+ghost use Rattle.inc_inputs.specs.Reports.{about_option, bad_glob, fits_none, hex_digit, hindrance_text, malformed_rules, no_directive, no_line, out_of_memory, report_of, read_report, list_report, compiler_report, definitions_report, project_report, several_headers, shown, shown_byte};
 
 use inc_check::CertFault;
 use inc_lookup::ProjectFault;
+use inc_rules::{FaultKind, fault_words};
 use inc_text::ReadFault;
 use itoa::Buffer;
 use std::alloc::{AllocError, AllocFailed, Global};
@@ -99,6 +100,12 @@ pub enum Failure {
     Build(Vec<u8>),
     /// Each source is a header, too.
     NoSourceLeft,
+    /// The words give no rules, or give them in two ways.
+    NoRules,
+    /// A line of a list of rules has none: the name of the list, the line, and why.
+    MalformedRules(Vec<u8>),
+    /// No rule is about a file of the project.
+    NoSubject,
     /// Memory ran out.
     NoMemory,
 }
@@ -189,6 +196,44 @@ fn line_of(alloc: Global, line: usize, path: &[u8]) -> Result<Vec<u8>, AllocErro
     text.extend_from_slice(buffer.format(line).as_bytes())?;
     text.extend_from_slice(b" of ")?;
     text.extend_from_slice(path)?;
+    Ok(text)
+}
+
+/// The failure to report of a line of a list of rules with this name.
+pub(crate) fn rules_failure(
+    alloc: Global,
+    name: &[u8],
+    line: usize,
+    kind: FaultKind,
+    words: &[&[u8]],
+) -> Failure
+    ensures { report_of result ≢ out_of_memory → report_of result
+        ≡ malformed_rules name.now line (record { kind = kind; words = map (λ w. w.now) words.now }) }
+{
+    match rules_text(alloc, name, line, kind, words) {
+        Ok(text) => Failure::MalformedRules(text),
+        Err(_) => Failure::NoMemory,
+    }
+}
+
+/// A line of a list, and what is wrong with it.
+fn rules_text(
+    alloc: Global,
+    name: &[u8],
+    line: usize,
+    kind: FaultKind,
+    words: &[&[u8]],
+) -> Result<Vec<u8>, AllocError>
+    ensures { IfOk result (λ text. text.items
+        ≡ (malformed_rules name.now line (record { kind = kind; words = map (λ w. w.now) words.now })).message) }
+{
+    let mut buffer = Buffer::new();
+    let mut text = Vec::new(alloc);
+    put_shown(&mut text, name)?;
+    text.extend_from_slice(b":")?;
+    text.extend_from_slice(buffer.format(line).as_bytes())?;
+    text.extend_from_slice(b": ")?;
+    put_shown(&mut text, &fault_words(alloc, kind, words)?)?;
     Ok(text)
 }
 
@@ -394,7 +439,10 @@ impl Failure {
             | Failure::NotUndefined(text)
             | Failure::Build(text)
             | Failure::FitsNone(text)
-            | Failure::NoDirective(text) => (b"", text),
+            | Failure::NoDirective(text)
+            | Failure::MalformedRules(text) => (b"", text),
+            Failure::NoRules => (b"name RULES, or give rules with -e", b""),
+            Failure::NoSubject => (b"no rule is about a file of the project", b""),
             Failure::SeveralHeaders(text) => (b"several files end in ", text),
             Failure::NoSourceLeft => (b"each file of --from is one of --to", b""),
             Failure::NoMemory => (b"out of memory", b""),
@@ -424,7 +472,8 @@ impl Failure {
             | Failure::BadGlob(_)
             | Failure::NoLine(_)
             | Failure::NotUndefined(_)
-            | Failure::Build(_) => 2,
+            | Failure::Build(_)
+            | Failure::NoRules => 2,
             Failure::CannotRead(_) | Failure::CannotWrite | Failure::CannotWriteFile(_) => 3,
             Failure::FileTooLong(_)
             | Failure::TooManyFiles
@@ -435,7 +484,9 @@ impl Failure {
             | Failure::FitsNone(_)
             | Failure::NoDirective(_)
             | Failure::SeveralHeaders(_)
-            | Failure::NoSourceLeft => 4,
+            | Failure::NoSourceLeft
+            | Failure::MalformedRules(_)
+            | Failure::NoSubject => 4,
             Failure::NoMemory => 5,
         }
     }

@@ -16,6 +16,7 @@ pub mod OneText
 pub mod PpLemmas
 pub mod PpSections
 pub mod RuleLemmas
+pub mod BrokenRules
 pub mod NameOrder
 pub mod NameLemmas
 pub mod SourcePaths

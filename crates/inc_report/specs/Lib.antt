@@ -44,6 +44,7 @@ pub mod PpViews
 pub mod Printed
 pub mod Questions
 pub mod Refusals
+pub mod RulesText
 pub mod ScanForms
 pub mod ScanText
 pub mod Sending

@@ -1,3 +1,5 @@
+use Rattle.std.proofs.Common.{map}
+use Rattle.inc_rules.specs.Views.{seen_rule}
 use Rattle.inc_lookup.specs.Given.{HoldsOfGiven}
 use Rattle.inc_check.specs.Texts.{OfBytes}
 use Rattle.inc_report.specs.BlankHeadline.{BlankHeadline, PatchHeadline}
@@ -8,6 +10,7 @@ use Rattle.inc_report.specs.GraphText.{IsGraphBy}
 use Rattle.inc_report.specs.Headline.{CheckHeadline, CutHeadline}
 use Rattle.inc_report.specs.NamedHeadline.{NamedHeadline}
 use Rattle.inc_report.specs.NamedText.{IsNamedBy}
+use Rattle.inc_report.specs.RulesText.{IsRulesBy}
 use Rattle.inc_report.specs.WhoText.{IsWhoBy}
 use Rattle.inc_report.specs.WhyText.{IsWhyBy}
 use Rattle.inc_cli.specs.Questions.{Content, Promise}
@@ -70,6 +73,26 @@ returns-in-Graph-clause-printed g c Promise notes =
     let q = c.args.question.now in
     rw c.in-Graph.is (prints gives old new layout q (λ p. HoldsOfGiven (reading gives) old new layout (IsGraphBy q p)) _ _ _
     (λ p h. tt) c.run_graph.ensures.written c.run_graph.ensures.unread)
+
+pub returns-in-Rules-clause-printed : goal.returns-in-Rules-clause-printed
+returns-in-Rules-clause-printed g c Content notes =
+    let gives = g.I.Inputs.gives in
+    let old = c.args.files in
+    let new = c.run_rules.new.sources in
+    let layout = c.args.project.now in
+    let q = c.args.question.now in
+    let rules = map seen_rule c.in-Rules.rules.now in
+    rw c.in-Rules.is (prints gives old new layout q (λ p. HoldsOfGiven (reading gives) old new layout (IsRulesBy rules q p)) _ _ _
+    (λ p h. holds gives old new layout (IsRulesBy rules q p) h) c.run_rules.ensures.written c.run_rules.ensures.unread)
+returns-in-Rules-clause-printed g c Promise notes =
+    let gives = g.I.Inputs.gives in
+    let old = c.args.files in
+    let new = c.run_rules.new.sources in
+    let layout = c.args.project.now in
+    let q = c.args.question.now in
+    let rules = map seen_rule c.in-Rules.rules.now in
+    rw c.in-Rules.is (prints gives old new layout q (λ p. HoldsOfGiven (reading gives) old new layout (IsRulesBy rules q p)) _ _ _
+    (λ p h. tt) c.run_rules.ensures.written c.run_rules.ensures.unread)
 
 pub returns-in-Cut-clause-printed : goal.returns-in-Cut-clause-printed
 returns-in-Cut-clause-printed g c Content notes =

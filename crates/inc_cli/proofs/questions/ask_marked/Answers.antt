@@ -1,13 +1,11 @@
 use Rattle.std.proofs.Common.{◌++◌, ℕ, Err, List, ap, refl, rules, subst}
 use Rattle.std.specs.Io.KnownBytes.{Keeps}
 use Rattle.inc_args.specs.Views.{seen_limits, seen_question}
-use Rattle.inc_inputs.specs.Ends.{asked_ends}
-use Rattle.inc_inputs.specs.HeaderNames.{header_notes}
 use Rattle.inc_inputs.specs.Places.{places_of}
 use Rattle.inc_inputs.specs.Reports.{report_of}
 use Rattle.inc_inputs.specs.Views.{end_paths_in, places_in}
 use Rattle.inc_cli.specs.Questions.{IsAnswered, IsKnown}
-use Rattle.inc_cli.specs.Runs.{asked_for}
+use Rattle.inc_cli.specs.Runs.{asked_for, ends_for, notes_for}
 use Rattle.inc_cli.specs.Views.{built_in, opened_in, output_of, seen_command, seen_end}
 use Rattle.inc_cli.proofs.Askings.{with_ends, with_places}
 use Rattle.inc_cli.proofs.PlacedLemmas.{run_unplaced}
@@ -38,8 +36,8 @@ returns g c known not =
     let out = output_of (g.O.ByteSink.written c.args.out) (g.O.ByteSink.written c.ask_placed.result.1) (g.O.ByteSink.has_failed c.ask_placed.result.1) in
     let answer = seen_end c.ask_placed.result.0 in
     let P = IsAnswered g.I.Inputs.gives (IsKnown known g.I.Inputs.gives (record { opens = g.I.Inputs.opens; left = g.I.Stream.ByteSource.left }) command) command in
-    run_came (asked_ends layout q) (with_ends language command q l without fixed o layout b) _ _ _ _ ends c.in-Ok.ensures.ends
+    run_came (ends_for command layout q) (with_ends language command q l without fixed o layout b) _ _ _ _ ends c.in-Ok.ensures.ends
     (run_came (places_of layout q l without fixed) (with_places language command q o layout b ends) _ _ _ _ places c.in-Ok.ensures.places
-    (run_here (asked_for language command o layout b ends places (b.notes ++ header_notes layout q)) P c.args.inputs out answer
+    (run_here (asked_for language command o layout b ends places (b.notes ++ notes_for command layout q)) P c.args.inputs out answer
     (subst (λ (notes : List ℕ). P (asked_for language command o layout b ends places (b.notes ++ notes)) c.args.inputs out answer) c.in-Ok.ensures.notes
     (c.ask_placed.ensures known not))))

@@ -1,9 +1,10 @@
 use Rattle.std.proofs.Common.{◌≡◌, None, Result, option_map, rules, subst, sym}
-use Rattle.inc_args.specs.Views.{seen_limits, seen_question, seen_request}
+use Rattle.inc_args.specs.Views.{seen_limits, seen_question, seen_request, seen_rules}
 use Rattle.inc_inputs.specs.Reports.{Report}
-use Rattle.inc_cli.specs.Outputs.{Follows}
+use Rattle.inc_inputs.specs.RuleLists.{rule_name, rules_given}
+use Rattle.inc_cli.specs.Outputs.{Follows, IsRun}
 use Rattle.inc_cli.specs.Commands.{Command}
-use Rattle.inc_cli.specs.Processes.{IsAnswerTo, IsAskedBy, IsPromiseOf}
+use Rattle.inc_cli.specs.Processes.{IsAnswerTo, IsAskedBy, IsPromiseOf, IsRuledBy}
 use Rattle.inc_cli.specs.Questions.{Content, Opens, Promise}
 use Rattle.inc_cli.specs.Runs.{no_limits}
 use Rattle.inc_cli.specs.Scans.{IsScan}
@@ -104,3 +105,17 @@ returns-in-Ok-formatted-2-clause-answered g c not =
     subst (λ r. IsAnswerTo gives g.I.Inputs.puts o language terminal (seen_request r) c.args.inputs out answer) (sym c.in-Graph.is)
     (subst (λ (command : Result Command Report). Follows (λ k. IsAskedBy Content gives o language k q no_limits) command c.args.inputs out answer) c.in-Ok-formatted-2.ensures
     (subst (λ l. IsAskedBy Content gives o language (seen_command c.in-Ok-formatted-2.command) q l c.args.inputs out answer) none (c.ask-in-Ok-formatted-2.ensures Content not)))
+
+pub returns-in-Rules-clause-answered : goal.returns-in-Rules-clause-answered
+returns-in-Rules-clause-answered g c not =
+    let gives = g.I.Inputs.gives in
+    let o : Opens g.row.I.Denot g.row.I-Stream.Denot = record { opens = g.I.Inputs.opens; left = g.I.Stream.ByteSource.left } in
+    let language = c.args.setup.now.language in
+    let terminal = c.args.setup.now.is_terminal in
+    let out = output_of (g.O.ByteSink.written c.args.out) (g.O.ByteSink.written c.ask_rules.result.1) (g.O.ByteSink.has_failed c.ask_rules.result.1) in
+    let answer = seen_end c.ask_rules.result.0 in
+    let q = seen_question c.in-Rules.question in
+    let w = seen_rules c.in-Rules.words in
+    let none : seen_limits (record { fixed = None; keep = c.new.result; only = c.new-2.result; costs = None }) ≡ no_limits = search rules in
+    subst (λ r. IsAnswerTo gives g.I.Inputs.puts o language terminal (seen_request r) c.args.inputs out answer) (sym c.in-Rules.is)
+    (subst (λ l. IsRun (rules_given gives w) (IsRuledBy gives o language q l (rule_name w)) c.args.inputs out answer) none (c.ask_rules.ensures not))
