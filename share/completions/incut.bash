@@ -2,21 +2,22 @@
 _incut() {
     local cur=${COMP_WORDS[COMP_CWORD]} prev=${COMP_WORDS[COMP_CWORD - 1]} command= options word
     for word in "${COMP_WORDS[@]:1:COMP_CWORD-1}"; do
-        case $word in scan | why | who | graph | rules | cut | check | pp | help) command=$word && break ;; esac
+        case $word in scan | why | who | graph | rules | cost | cut | check | pp | help) command=$word && break ;; esac
     done
     case $prev in
         -I | --root | --iquote | --isystem | --idirafter) mapfile -t COMPREPLY < <(compgen -d -- "$cur") && return ;;
-        -D | -e | --drop | --external | --keep | --only | --from | --to | --most-read | --most-output) return ;;
+        -D | -e | --top | --drop | --external | --keep | --only | --from | --to | --most-read | --most-output) return ;;
         --files | --without | --fixed | --costs | --defines | --compiler | --deps | --status) mapfile -t COMPREPLY < <(compgen -f -- "$cur") && return ;;
     esac
     options="--extended --gnu --help"
     case $command in
-        '') options="scan why who graph rules cut check pp help $options --version" ;;
-        help) options="scan why who graph rules cut check pp" ;;
+        '') options="scan why who graph rules cost cut check pp help $options --version" ;;
+        help) options="scan why who graph rules cost cut check pp" ;;
         scan) options+=" --format" ;;
         why) options+=" -p --files --root --follow --null -0 -I --iquote --isystem --idirafter --without --drop --strict --external --quiet -q --fail-if-reached --format --all --max --undefined --from --to" ;;
         graph) options+=" -p --files --root --follow --null -0 -I --iquote --isystem --idirafter --without --drop --strict --external --undefined --format --from" ;;
-        rules) options+=" -p --files --root --follow --null -0 -I --iquote --isystem --idirafter --without --drop --strict --external --quiet -q --undefined -e" ;;
+        cost) options+=" -p --files --root --follow --null -0 -I --iquote --isystem --idirafter --without --drop --strict --external --quiet -q --undefined --top --from" ;;
+        rules) options+=" -p --files --root --follow --null -0 -I --iquote --isystem --idirafter --without --drop --strict --external --quiet -q --undefined --format -e" ;;
         who) options+=" -p --files --root --follow --null -0 -I --iquote --isystem --idirafter --without --drop --strict --external --quiet -q --fail-if-reached --undefined --from --to --chains --format --max" ;;
         cut) options+=" -p --files --root --follow --null -0 -I --iquote --isystem --idirafter --without --drop --strict --external --undefined --from --to --fixed --keep --only --costs --quiet -q --blank --patch --format --all --max" ;;
         check) options+=" -p --files --root --follow --null -0 -I --iquote --isystem --idirafter --without --drop --strict --external --undefined --from --to --fixed --keep --only --costs --quiet -q" ;;

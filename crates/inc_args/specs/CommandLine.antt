@@ -137,6 +137,9 @@ missing_empty = flag (codes "missing-empty")
 abbrev pub lines : Rule
 lines = flag (codes "lines")
 
+abbrev pub top : Rule
+top = option (codes "top")
+
 abbrev pub most_read : Rule
 most_read = option (codes "most-read")
 
@@ -246,17 +249,25 @@ output_rules = deps ∷ status ∷ []
 abbrev pub end_rules : List Rule
 end_rules = undefined ∷ from ∷ to ∷ source ∷ header ∷ []
 
--- which sources of several are asked for, and what is printed of them
-abbrev pub who_rules : List Rule
-who_rules = undefined ∷ chains ∷ format ∷ most ∷ from ∷ to ∷ header ∷ []
+-- what is printed of sources, in builds that do not define some names
+abbrev pub chain_rules : List Rule
+chain_rules = undefined ∷ chains ∷ format ∷ most ∷ []
+
+-- which sources of several are asked for, and which headers
+abbrev pub header_rules : List Rule
+header_rules = from ∷ to ∷ header ∷ []
 
 -- from which sources, in builds that do not define some names, and in which format edges are printed
 abbrev pub graph_rules : List Rule
 graph_rules = undefined ∷ format ∷ from ∷ []
 
--- which rules are asked about, in builds that do not define some names
+-- which rules are asked about, in builds that do not define some names, and in which format they are answered
 abbrev pub rule_rules : List Rule
-rule_rules = undefined ∷ rule ∷ rules_file ∷ []
+rule_rules = undefined ∷ format ∷ rule ∷ rules_file ∷ []
+
+-- what includes cost: in builds that do not define some names, how much is printed, and from which sources
+abbrev pub cost_rules : List Rule
+cost_rules = undefined ∷ top ∷ from ∷ []
 
 abbrev pub scan : App
 scan = command (codes "scan") (extended ∷ gnu ∷ format ∷ path ∷ [])
@@ -265,13 +276,16 @@ abbrev pub why : App
 why = command (codes "why") (extended ∷ gnu ∷ file_rules ++ drop_rules ++ strict_rules ++ note_rules ++ reach_rules ++ format_rules ++ end_rules)
 
 abbrev pub who : App
-who = command (codes "who") (extended ∷ gnu ∷ file_rules ++ drop_rules ++ strict_rules ++ note_rules ++ reach_rules ++ who_rules)
+who = command (codes "who") (extended ∷ gnu ∷ file_rules ++ drop_rules ++ strict_rules ++ note_rules ++ reach_rules ++ chain_rules ++ header_rules)
 
 abbrev pub graph : App
 graph = command (codes "graph") (extended ∷ gnu ∷ file_rules ++ drop_rules ++ strict_rules ++ graph_rules)
 
 abbrev pub rules : App
 rules = command (codes "rules") (extended ∷ gnu ∷ file_rules ++ drop_rules ++ strict_rules ++ note_rules ++ rule_rules)
+
+abbrev pub cost : App
+cost = command (codes "cost") (extended ∷ gnu ∷ file_rules ++ drop_rules ++ strict_rules ++ note_rules ++ cost_rules)
 
 abbrev pub cut : App
 cut = command (codes "cut") (extended ∷ gnu ∷ file_rules ++ drop_rules ++ strict_rules ++ note_rules ++ limit_rules ++ form_rules ++ end_rules)
@@ -294,11 +308,15 @@ with_command app sub = with_subcommand app sub.top
 
 -- with the commands that tell what sources include
 abbrev pub with_views : App → App
-with_views app = fold with_command app (scan ∷ why ∷ who ∷ graph ∷ rules ∷ [])
+with_views app = fold with_command app (scan ∷ why ∷ who ∷ graph ∷ [])
+
+-- with those that look at all that sources include
+abbrev pub with_surveys : App → App
+with_surveys app = fold with_command app (rules ∷ cost ∷ [])
 
 -- with those that tell what to edit, check it, and preprocess
 abbrev pub with_edits : App → App
 with_edits app = fold with_command app (cut ∷ check ∷ pp ∷ [])
 
 abbrev pub incut : App
-incut = with_edits (with_views program)
+incut = with_edits (with_surveys (with_views program))

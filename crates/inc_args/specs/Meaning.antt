@@ -103,7 +103,9 @@ pub data Asked : Type 0 where
   -- about sources alone
   Graph : Question → Format → Asked
   -- about the sources of rules
-  Rules : Question → RuleWords → Asked
+  Rules : Question → RuleWords → Format → Asked
+  -- about sources alone, of which at most so many headers and directives are printed
+  Cost : Question → (top : Option Text) → Asked
   Cut : Question → Limits → Forms → Asked
   -- and the certificate
   Check : Question → Limits → Text → Asked
@@ -226,7 +228,8 @@ asked_by name rows =
     if bytes_eq name (codes "why") then Why (question_in rows) (format_in (codes "all") rows) else
     if bytes_eq name (codes "who") then Who (who_in rows) (format_in (codes "chains") rows) else
     if bytes_eq name (codes "graph") then Graph (who_in rows) (format_in (codes "all") rows) else
-    if bytes_eq name (codes "rules") then Rules (question_in rows) (rules_in rows) else
+    if bytes_eq name (codes "rules") then Rules (question_in rows) (rules_in rows) (format_in (codes "all") rows) else
+    if bytes_eq name (codes "cost") then Cost (who_in rows) (first_of (codes "top") rows) else
     if bytes_eq name (codes "cut") then Cut (question_in rows) (limits_in rows) (forms_in rows) else
     if bytes_eq name (codes "check") then Check (question_in rows) (limits_in rows) (value_of (codes "CERT") rows) else
     if bytes_eq name (codes "pp") then Pp (preprocessing_in rows) else Scan (first_of (codes "PATH") rows) (first_of (codes "format") rows)

@@ -11,7 +11,7 @@ use Rattle.inc_args.specs.declared.requests.QuestionArgs.{QuestionArgs}
 use Rattle.inc_args.specs.declared.requests.Request.{Request}
 use Rattle.inc_args.specs.declared.requests.RuleArgs.{RuleArgs}
 use Rattle.inc_args.specs.declared.requests.Request.TheVariants as request
-use Rattle.inc_args.specs.Meaning.{Asked, FileWords, Format, Forms, Languages, Limits, Meaning, Preprocessing, Question, RuleWords, Scan, Why, Who, Graph, Rules, Cut, Check, Pp}
+use Rattle.inc_args.specs.Meaning.{Asked, FileWords, Format, Forms, Languages, Limits, Meaning, Preprocessing, Question, RuleWords, Scan, Why, Who, Graph, Rules, Cost, Cut, Check, Pp}
 
 abbrev pub seen_files : FileList → FileWords
 seen_files f = record {
@@ -80,7 +80,8 @@ seen_request (request.Scan path format) = Scan (option_map (λ p. p.now) path) (
 seen_request (request.Why q f) = Why (seen_question q) (seen_format f)
 seen_request (request.Who q f) = Who (seen_question q) (seen_format f)
 seen_request (request.Graph q f) = Graph (seen_question q) (seen_format f)
-seen_request (request.Rules q r) = Rules (seen_question q) (seen_rules r)
+seen_request (request.Rules q r f) = Rules (seen_question q) (seen_rules r) (seen_format f)
+seen_request (request.Cost q top) = Cost (seen_question q) (option_map (λ t. t.now) top)
 seen_request (request.Cut q l f) = Cut (seen_question q) (seen_limits l) (seen_forms f)
 seen_request (request.Check q l certificate) = Check (seen_question q) (seen_limits l) certificate.now
 seen_request (request.Pp p) = Pp (seen_pp p)

@@ -2,12 +2,12 @@
 ghost use Rattle.std.specs.Prelude.{◌≡◌, ◌∷◌, [], IfOk};
 ghost use Rattle.clap.specs.Words.{app_of};
 ghost use Rattle.inc_args.specs.CommandLine as line;
-ghost use Rattle.inc_args.specs.CommandLine.{bound_rules, end_rules, file_rules, form_rules, format_rules, graph_rules, incut, limit_rules, list_rules, macro_rules, note_rules, output_rules, reach_rules, rule_rules, search_rules, strict_rules, who_rules, with_rules, drop_rules};
+ghost use Rattle.inc_args.specs.CommandLine.{bound_rules, chain_rules, cost_rules, end_rules, file_rules, form_rules, format_rules, graph_rules, header_rules, incut, limit_rules, list_rules, macro_rules, note_rules, output_rules, reach_rules, rule_rules, search_rules, strict_rules, with_rules, drop_rules};
 
 use crate::help::{
-    ABOUT, ALL_HELP, CHECK_NOTES, CUT_NOTES, EXAMPLES, EXTENDED_HELP, FORMAT_HELP, GNU_HELP,
-    GRAPH_NOTES, HEADER_HELP, MAX_HELP, PP_NOTES, RULES_NOTES, SCAN_FORMAT_HELP, SCAN_NOTES,
-    SOURCES_HELP, TO_HELP, UNDEFINED_HELP, VERSION, WHO_NOTES, WHY_NOTES,
+    ABOUT, ALL_HELP, CHECK_NOTES, COST_NOTES, CUT_NOTES, EXAMPLES, EXTENDED_HELP, FORMAT_HELP,
+    GNU_HELP, GRAPH_NOTES, HEADER_HELP, MAX_HELP, PP_NOTES, RULES_NOTES, SCAN_FORMAT_HELP,
+    SCAN_NOTES, SOURCES_HELP, TO_HELP, UNDEFINED_HELP, VERSION, WHO_NOTES, WHY_NOTES,
 };
 use crate::options::{
     files, flag, null, option, optional_word, path, quiet, repeated, repeated_option, single,
@@ -207,16 +207,23 @@ fn with_ends<'a>(alloc: Global, command: Command<'a>) -> Result<Command<'a>, All
         .arg(optional_word(alloc, "HEADER", HEADER_HELP))
 }
 
-/// Adds what names the headers and the sources, which need not be named, and how the answer is printed.
-fn with_who<'a>(alloc: Global, command: Command<'a>) -> Result<Command<'a>, AllocError>
-    ensures { IfOk result (λ c. app_of c ≡ with_rules (app_of command.entry) who_rules) }
+/// Adds what no build defines, and how it is printed which sources include a header.
+fn with_chains<'a>(alloc: Global, command: Command<'a>) -> Result<Command<'a>, AllocError>
+    ensures { IfOk result (λ c. app_of c ≡ with_rules (app_of command.entry) chain_rules) }
 {
     let chains = "Print a shortest chain from each source, too";
     command
         .arg(repeated_option(alloc, "undefined", "NAME", UNDEFINED_HELP))?
         .arg(flag(alloc, "chains", chains))?
         .arg(option(alloc, "format", "FORMAT", FORMAT_HELP))?
-        .arg(option(alloc, "max", "N", MAX_HELP))?
+        .arg(option(alloc, "max", "N", MAX_HELP))
+}
+
+/// Adds what names the headers and the sources, which need not be named.
+fn with_headers<'a>(alloc: Global, command: Command<'a>) -> Result<Command<'a>, AllocError>
+    ensures { IfOk result (λ c. app_of c ≡ with_rules (app_of command.entry) header_rules) }
+{
+    command
         .arg(repeated_option(alloc, "from", "GLOB", SOURCES_HELP))?
         .arg(repeated_option(alloc, "to", "GLOB", TO_HELP))?
         .arg(optional_word(alloc, "HEADER", HEADER_HELP))
@@ -232,7 +239,7 @@ fn with_sources<'a>(alloc: Global, command: Command<'a>) -> Result<Command<'a>, 
         .arg(repeated_option(alloc, "from", "GLOB", SOURCES_HELP))
 }
 
-/// Adds the rules, and what no build defines.
+/// Adds the rules, what no build defines, and the format of the answer.
 fn with_rule_words<'a>(alloc: Global, command: Command<'a>) -> Result<Command<'a>, AllocError>
     ensures { IfOk result (λ c. app_of c ≡ with_rules (app_of command.entry) rule_rules) }
 {
@@ -240,8 +247,20 @@ fn with_rule_words<'a>(alloc: Global, command: Command<'a>) -> Result<Command<'a
     let rules = "File with rules, one a line; `-` is standard input";
     command
         .arg(repeated_option(alloc, "undefined", "NAME", UNDEFINED_HELP))?
+        .arg(option(alloc, "format", "FORMAT", FORMAT_HELP))?
         .arg(repeated(alloc, 'e', "rule", "RULE", rule))?
         .arg(optional_word(alloc, "RULES", rules))
+}
+
+/// Adds what names the sources, which need not be named, what no build defines, and how much is printed.
+fn with_cost_words<'a>(alloc: Global, command: Command<'a>) -> Result<Command<'a>, AllocError>
+    ensures { IfOk result (λ c. app_of c ≡ with_rules (app_of command.entry) cost_rules) }
+{
+    let top = "Print the first N headers and the first N directives [default: 20]";
+    command
+        .arg(repeated_option(alloc, "undefined", "NAME", UNDEFINED_HELP))?
+        .arg(option(alloc, "top", "N", top))?
+        .arg(repeated_option(alloc, "from", "GLOB", SOURCES_HELP))
 }
 
 fn scan<'a>(alloc: Global) -> Result<Command<'a>, AllocError>
@@ -282,7 +301,8 @@ fn who<'a>(alloc: Global) -> Result<Command<'a>, AllocError>
         WHO_NOTES,
     )?;
     let command = with_strict(alloc, with_dropped(alloc, command)?)?;
-    with_who(alloc, with_reach(alloc, with_notes(alloc, command)?)?)
+    let command = with_reach(alloc, with_notes(alloc, command)?)?;
+    with_headers(alloc, with_chains(alloc, command)?)
 }
 
 fn graph<'a>(alloc: Global) -> Result<Command<'a>, AllocError>
@@ -308,6 +328,19 @@ fn rules<'a>(alloc: Global) -> Result<Command<'a>, AllocError>
     )?;
     let command = with_strict(alloc, with_dropped(alloc, command)?)?;
     with_rule_words(alloc, with_notes(alloc, command)?)
+}
+
+fn cost<'a>(alloc: Global) -> Result<Command<'a>, AllocError>
+    ensures { IfOk result (λ c. app_of c ≡ line.cost) }
+{
+    let command = started(
+        alloc,
+        "cost",
+        "List the headers and includes that bring most into the sources",
+        COST_NOTES,
+    )?;
+    let command = with_strict(alloc, with_dropped(alloc, command)?)?;
+    with_cost_words(alloc, with_notes(alloc, command)?)
 }
 
 fn cut<'a>(alloc: Global) -> Result<Command<'a>, AllocError>
@@ -366,8 +399,16 @@ fn with_views<'a>(alloc: Global, program: Command<'a>) -> Result<Command<'a>, Al
         .subcommand(scan(alloc)?)?
         .subcommand(why(alloc)?)?
         .subcommand(who(alloc)?)?
-        .subcommand(graph(alloc)?)?
-        .subcommand(rules(alloc)?)
+        .subcommand(graph(alloc)?)
+}
+
+/// Adds the commands that look at all that sources include.
+fn with_surveys<'a>(alloc: Global, program: Command<'a>) -> Result<Command<'a>, AllocError>
+    ensures { IfOk result (λ c. app_of c ≡ line.with_surveys (app_of program.entry)) }
+{
+    program
+        .subcommand(rules(alloc)?)?
+        .subcommand(cost(alloc)?)
 }
 
 /// Adds the commands that tell what to edit, check it, and preprocess.
@@ -386,5 +427,6 @@ pub(crate) fn incut<'a>(alloc: Global) -> Result<Command<'a>, AllocError>
 {
     // One part after the other, so that the stack has the commands of one alone.
     let command = with_views(alloc, program(alloc)?)?;
+    let command = with_surveys(alloc, command)?;
     with_edits(alloc, command)
 }

@@ -46,6 +46,8 @@ pub(crate) const EXAMPLES: &str = "Examples:
       List all includes that the .c files reach.
   incut rules -I include -e 'src/*.c must not reach include/private/**'
       Check that no source of src includes a private header.
+  incut cost -I include
+      List the headers and includes that bring most into the .c files.
   incut cut -I include src/main.c net/api.h
       Find the fewest include directives to remove so that it no longer does.
   incut cut -I include --from 'src/*.c' --to 'include/private/*.h'
@@ -239,10 +241,42 @@ Each rule that is broken is printed by the number of its line: with the chains t
 the first shortest one of each file, and with the files that do not include what they must. After the
 rules come `missing` and `blocked`, as `incut why` prints them: what these might lead to is not known.
 With --strict it is refused where a header is not found. The exit status is 1 where a rule is broken.
+With --format gcc, the default on a terminal, it is printed with its words, and each directive as it is
+written.
 
 Includes inside #if groups always count, whether or not the group would be taken. --without names a
 file with directives to take as removed, one a line, --drop directives of files, and --undefined a
 macro that no build defines on its command line, as for `incut why`.";
+
+pub(crate) const COST_NOTES: &str =
+    "List which headers bring most into the sources, and without which includes most of it would go, by
+the bytes of the files that are reached. Files are named as for `incut why`:
+
+  incut cost -I include --from 'src/*.c'
+
+  cost 5237104 60
+  headers 2
+  2391846 60 include/compat.h
+  80311 12 include/net.h
+  directives 2
+  410252 60 37 include/compat.h
+  80311 12 3 src/net.c
+
+The first line has the bytes of all files that the sources reach, each source counted by itself, and how
+many sources there are. Of each header is printed how many of these bytes come in through it alone,
+itself included, and into how many sources; of each include how many bytes go if it alone is removed, and
+from how many sources, and then its line and its file. The greatest amounts come first. They do not sum
+up: where two includes lead to a header, either can go without a byte less. What several includes
+bring together is the difference of two calls, one with --drop or --without.
+
+After them is how many includes name headers that are not found (`missing`), and of how many it is not
+known which file they read (`blocked`): what these might lead to is not counted. `incut graph` lists
+them. With --strict it is refused where a header is not found.
+
+Includes inside #if groups always count, whether or not the group would be taken. Sources are the .c
+files of the project, or those that --from stands for. The globs are those of `incut why`. --without
+names a file with directives to take as removed, one a line, --drop directives of files, and
+--undefined a macro that no build defines on its command line, as for `incut why`.";
 
 pub(crate) const CUT_NOTES: &str =
     "Print the include directives to remove so that SOURCE no longer includes HEADER: as few as

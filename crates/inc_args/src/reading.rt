@@ -90,7 +90,12 @@ fn read_request<'a>(
         "why" => Ok(Request::Why(read_question(alloc, matches)?, read_format(matches, "all"))),
         "who" => Ok(Request::Who(read_who(alloc, matches)?, read_format(matches, "chains"))),
         "graph" => Ok(Request::Graph(read_who(alloc, matches)?, read_format(matches, "all"))),
-        "rules" => Ok(Request::Rules(read_question(alloc, matches)?, read_rules(alloc, matches)?)),
+        "rules" => Ok(Request::Rules(
+            read_question(alloc, matches)?,
+            read_rules(alloc, matches)?,
+            read_format(matches, "all"),
+        )),
+        "cost" => Ok(Request::Cost(read_who(alloc, matches)?, given(matches, "top"))),
         "cut" => Ok(Request::Cut(
             read_question(alloc, matches)?,
             read_limits(alloc, matches)?,

@@ -34,7 +34,9 @@ pub enum Request<'a> {
     /// List the edges that sources reach.
     Graph(QuestionArgs<'a>, FormatArgs<'a>),
     /// Tell which rules are broken.
-    Rules(QuestionArgs<'a>, RuleArgs<'a>),
+    Rules(QuestionArgs<'a>, RuleArgs<'a>, FormatArgs<'a>),
+    /// List the headers and directives that bring most, at most so many of each.
+    Cost(QuestionArgs<'a>, Option<&'a str>),
     /// Find the fewest include directives to remove so that a source no longer includes a header.
     Cut(QuestionArgs<'a>, LimitArgs<'a>, FormArgs<'a>),
     /// Check this certificate of such a cut.

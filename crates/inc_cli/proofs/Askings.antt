@@ -14,18 +14,19 @@ use Rattle.inc_inputs.specs.Places.{Places, places_of}
 use Rattle.inc_inputs.specs.ProjectLists.{paths_in}
 use Rattle.inc_inputs.specs.Steps.{Step, comes_to, then}
 use Rattle.inc_inputs.specs.Texts.{Texts}
+use Rattle.inc_inputs.specs.declared.texts.Firsts.{Firsts}
 use Rattle.inc_cli.specs.Commands.{Command}
 use Rattle.inc_cli.specs.Runs.{Asked, Built, Opened, asked_built, asked_for, asked_marked, asked_opened, built_by, notes_for, opened_by}
 
 -- texts that were read
-abbrev pub texts_with : (list : List ℕ) (fixed without : List Mark) (costs : List ℕ) → Texts
-texts_with list fixed without costs = record { list = list; fixed = fixed; without = without; costs = costs }
+abbrev pub texts_with : (list : List ℕ) (fixed without : List Mark) (costs : List ℕ) (firsts : Firsts) → Texts
+texts_with list fixed without costs firsts = record { list = list; fixed = fixed; without = without; costs = costs; firsts = firsts }
 
 -- what they hold, part by part
-pub opened_made : (q : Question) (t : Texts) (paths : List (List ℕ)) (costs : List Cost) (undefined external : List (List ℕ)) (strict : Bool) (path : NamedPath)
-    → paths ≡ paths_in q.files t.list → undefined ≡ q.undefined → external ≡ q.external → strict ≡ q.is_strict → path ≡ include_path q.files []
-    → (let o : Opened = record { paths = paths; costs = costs; undefined = undefined; is_strict = strict; external = external; path = path } in o) ≡ opened_by q t costs
-opened_made q t paths costs undefined external strict path a b c d e = rw (a, b, c, d, e) refl
+pub opened_made : (q : Question) (t : Texts) (paths : List (List ℕ)) (costs : List Cost) (undefined external : List (List ℕ)) (strict : Bool) (path : NamedPath) (firsts : Firsts)
+    → paths ≡ paths_in q.files t.list → undefined ≡ q.undefined → external ≡ q.external → strict ≡ q.is_strict → path ≡ include_path q.files [] → firsts ≡ t.firsts
+    → (let o : Opened = record { paths = paths; costs = costs; undefined = undefined; is_strict = strict; external = external; path = path; firsts = firsts } in o) ≡ opened_by q t costs
+opened_made q t paths costs undefined external strict path firsts a b c d e f = rw (a, b, c, d, e, f) refl
 
 -- once the places are known, once sources and headers are, once all marks are, once the include paths are, and once the costs are
 abbrev pub with_places : {S : Type 0} → Language → Command → Question → Opened → Layout → Built → EndPaths → Places → Step S Asked
@@ -39,7 +40,7 @@ abbrev pub with_marks : {S : Type 0} → Language → Command → Question → L
 with_marks language command q l o layout b m = asked_marked language command q l m.without m.fixed o layout b
 
 abbrev pub with_others : {S : Type 0} → Gives S → Language → Command → Question → Limits → Added → (without fixed : List Mark) → Opened → Layout → (others : List SearchPath) → Step S Asked
-with_others gives language command q l a without fixed o layout others = asked_built gives language command q l without fixed o layout (built_by layout a others)
+with_others gives language command q l a without fixed o layout others = asked_built gives language command q l without fixed o layout (built_by layout q.files o a without fixed others)
 
 abbrev pub with_costs : {S : Type 0} → Gives S → Language → Command → Question → Limits → Added → Texts → List Cost → Step S Asked
 with_costs gives language command q l a t costs = asked_opened gives language command q l a t.without t.fixed (opened_by q t costs)

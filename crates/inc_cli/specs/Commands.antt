@@ -1,7 +1,9 @@
 -- The commands that ask about sources and headers.
 use Rattle.std.specs.Prelude.{ℕ, Bool, true, false, List, Option, Some, None, if◌then◌else◌}
-use Rattle.inc_rules.specs.Rules.{Rule}
 use Rattle.inc_report.specs.NamedText.{asks_headers}
+use Rattle.inc_report.specs.Terms.{Details, Limits, RuleList, no_rules}
+use Rattle.inc_report.specs.declared.named.Asked.TheVariants as asked
+use Rattle.inc_report.specs.declared.named.Format.{Format}
 use Rattle.inc_report.specs.declared.named.NamedForm.{NamedForm}
 
 -- what is asked about a source and a header
@@ -19,8 +21,10 @@ pub data Command : Type 0 where
   Patch : Command
   -- why, which edges, or which directives to remove, with directives as they are written
   Named : NamedForm → Command
-  -- which of these rules are broken; their list has this name
-  Rules : (name : List ℕ) → List Rule → Command
+  -- which of these rules are broken, as text or with directives as they are written
+  Rules : (format : Option Format) → RuleList → Command
+  -- what includes cost the sources: at most so many headers, and as many directives
+  Cost : (top : ℕ) → Command
   -- of the certificate that this word names
   Check : (name : List ℕ) → Command
 
@@ -35,16 +39,30 @@ abbrev pub certificate_of : Command → Option (List ℕ)
 certificate_of (Check name) = Some name
 certificate_of _ = None
 
--- the name of a list of rules
+-- the rules that it is about, where it is about rules
+abbrev pub rules_of : Command → RuleList
+rules_of (Rules format list) = list
+rules_of _ = no_rules
+
+-- what their list is called
 abbrev pub rules_name : Command → Option (List ℕ)
-rules_name (Rules name rules) = Some name
+rules_name (Rules format list) = Some list.name
 rules_name _ = None
+
+-- what its answer goes by beside the graph
+abbrev pub details_of : Command → Limits → Details
+details_of command l = record { limits = l; rules = rules_of command }
+
+-- rules in this format
+abbrev pub rules_form : Format → NamedForm
+rules_form format = record { asked = asked.Rules; format = format; all = false; fails = false; most = None }
 
 -- whether it is about headers, too
 abbrev pub has_headers : Command → Bool
 has_headers Graph = false
 has_headers (Named form) = asks_headers form.asked
-has_headers (Rules name rules) = false
+has_headers (Rules format list) = false
+has_headers (Cost top) = false
 has_headers _ = true
 
 -- the paths of the headers, where it is about some

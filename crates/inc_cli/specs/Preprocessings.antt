@@ -22,6 +22,7 @@ use Rattle.inc_inputs.specs.IncludePath.{include_path}
 use Rattle.inc_inputs.specs.Inputs.{Gives, Puts, listed}
 use Rattle.inc_inputs.specs.declared.failures.Hindrance.{Hindrance}
 use Rattle.inc_cli.specs.Outputs.{Answer, Following, Output, ended}
+use Rattle.inc_inputs.specs.ListNotes.{named_layout}
 use Rattle.inc_inputs.specs.PpTexts.{PpTexts, pp_texts, pp_texts_beside}
 use Rattle.inc_inputs.specs.BuildProjects.{Found, found_preprocessing, with_macros, words_fault, words_of_pp}
 use Rattle.inc_inputs.specs.BuildSteps.{found_if}
@@ -30,7 +31,7 @@ use Rattle.inc_inputs.specs.Questions.{with_questions}
 use Rattle.inc_inputs.specs.Reports.{Report, input_twice, no_file, no_most_output, no_most_read, one_file}
 use Rattle.inc_inputs.specs.Steps.{Step, comes_to, next_of, then, writes_if}
 use Rattle.inc_inputs.specs.ProjectLists.{paths_in}
-use Rattle.inc_inputs.specs.Texts.{are_one, are_twice, listed_layout, names_input, unless, unless_reported}
+use Rattle.inc_inputs.specs.Texts.{are_one, are_twice, names_input, unless, unless_reported}
 
 -- with --missing-empty
 abbrev pub missing_of : (is_empty : Bool) → Missing
@@ -84,7 +85,7 @@ pp_asked_for language p macros notes texts layout = record {
 -- by the texts, nothing more being read
 abbrev pub pp_asked : {S : Type 0} → Language → Preprocessing → (macros : List (Kind × List ℕ)) → (notes : List ℕ) → PpTexts → Step S PpAsked
 pp_asked language p macros notes texts =
-    then (comes_to (listed_layout (paths_in p.files texts.list) (searched p texts))) (λ layout. comes_to (Ok (pp_asked_for language p macros notes texts layout)))
+    then (comes_to (named_layout p.files (paths_in p.files texts.list) (searched p texts))) (λ layout. comes_to (Ok (pp_asked_for language p macros notes texts layout)))
 
 -- a project with this list and these notes
 abbrev pub with_texts : (list notes : List ℕ) → Found → Found
@@ -97,7 +98,7 @@ with_texts list notes f = record {
   sources = f.sources;
   headers = f.headers;
   macros = f.macros;
-  added = record { notes = notes; others = f.added.others; compiled = f.added.compiled };
+  added = record { is_build = f.added.is_build; notes = notes; others = f.added.others; compiled = f.added.compiled };
 }
 
 -- of the project that a build names, with its words in place of those of the command line

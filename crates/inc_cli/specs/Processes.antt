@@ -17,14 +17,14 @@ use Rattle.inc_report.specs.declared.scan.ScanForm.{ScanForm}
 use Rattle.inc_report.specs.declared.scan.ScanForm.TheVariants as form
 use Rattle.inc_rules.specs.Rules.{Rule}
 use Rattle.inc_inputs.specs.RuleLists.{rule_name, rules_given}
-use Rattle.inc_cli.specs.Commands.{Blank, Check, Command, Cut, Graph, Named, Patch, Rules, Who, Why, bounded}
+use Rattle.inc_cli.specs.Commands.{Blank, Check, Command, Cost, Cut, Graph, Named, Patch, Rules, Who, Why, bounded}
 use Rattle.inc_cli.specs.Languages.{language_of}
 use Rattle.inc_cli.specs.Notes.{notes_if}
 use Rattle.inc_cli.specs.Outputs.{Answer, Following, Follows, IsRun, Output}
 use Rattle.inc_cli.specs.Preprocessings.{IsPreprocessed, pp_of}
 use Rattle.inc_cli.specs.Questions.{IsAsked, Known, Content, Promise, Opens}
 use Rattle.inc_inputs.specs.Ends.{are_ends}
-use Rattle.inc_inputs.specs.Reports.{Report, format_of_files, no_format, no_headers, no_most, no_scan_format, report_line, two_forms}
+use Rattle.inc_inputs.specs.Reports.{Report, format_of_files, no_format, no_headers, no_most, no_scan_format, no_top, report_line, two_forms}
 use Rattle.inc_cli.specs.Runs.{asked_of, no_limits}
 use Rattle.inc_cli.specs.Scans.{IsScan}
 use Rattle.inc_cli.specs.Statuses.{status_of}
@@ -98,9 +98,28 @@ form_of is_terminal f =
 abbrev pub who_of : (is_terminal : Bool) → args.Question → args.Format → Result Command Report
 who_of is_terminal q f = if are_ends q then formatted is_terminal f (Who f.is_all f.fails None) asked.Who else Err no_headers
 
--- which rules are broken, once they are known
-abbrev pub IsRuledBy : {S T : Type 0} → Gives S → Opens S T → Language → args.Question → args.Limits → (name : List ℕ) → Following S (List Rule)
-IsRuledBy gives o language q l name rules = IsAskedBy Content gives o language (Rules name rules) q l
+-- what includes cost: the first 20 headers and directives where no number is given
+abbrev pub cost_by : Option ℕ → Result Command Report
+cost_by None = Err no_top
+cost_by (Some n) = Ok (Cost n)
+
+abbrev pub cost_of : (top : Option (List ℕ)) → Result Command Report
+cost_of None = Ok (Cost 20)
+cost_of (Some word) = cost_by (number_in word)
+
+-- the format of this name in which rules are printed: text, or with directives as they are written
+abbrev pub some_format : Option Format → Result (Option Format) Report
+some_format None = Err no_format
+some_format (Some format) = Ok (Some format)
+
+abbrev pub rules_format : (is_terminal : Bool) → (name : Option (List ℕ)) → Result (Option Format) Report
+rules_format is_terminal name =
+    let word : List ℕ = unwrap_or name (default_format is_terminal) in
+    if bytes_eq word (codes "text") then Ok None else some_format (format_named word)
+
+-- once it is known, and the rules are
+abbrev pub IsRuledBy : {S T : Type 0} → Gives S → Opens S T → Language → args.Question → args.Limits → (name : List ℕ) → (format : Option Format) → Following S (List Rule)
+IsRuledBy gives o language q l name format rules = IsAskedBy Content gives o language (Rules format (record { name = name; rules = rules })) q l
 
 -- what words ask for is answered
 abbrev pub IsAnswerTo : {S T : Type 0} → Gives S → Puts S → Opens S T → Language → (is_terminal : Bool) → args.Asked → (old : S) → Output → Result Answer Report → Type 0
@@ -112,8 +131,10 @@ IsAnswerTo gives puts o language is_terminal (args.Who q f) old out answer =
     Follows (λ command. IsAskedBy Content gives o language command q no_limits) (who_of is_terminal q f) old out answer
 IsAnswerTo gives puts o language is_terminal (args.Graph q f) old out answer =
     Follows (λ command. IsAskedBy Content gives o language command q no_limits) (formatted is_terminal f Graph asked.Graph) old out answer
-IsAnswerTo gives puts o language is_terminal (args.Rules q w) old out answer =
-    IsRun (rules_given gives w) (IsRuledBy gives o language q no_limits (rule_name w)) old out answer
+IsAnswerTo gives puts o language is_terminal (args.Rules q w f) old out answer =
+    Follows (λ format. IsRun (rules_given gives w) (IsRuledBy gives o language q no_limits (rule_name w) format)) (rules_format is_terminal f.name) old out answer
+IsAnswerTo gives puts o language is_terminal (args.Cost q top) old out answer =
+    Follows (λ command. IsAskedBy Content gives o language command q no_limits) (cost_of top) old out answer
 IsAnswerTo gives puts o language is_terminal (args.Cut q l f) old out answer =
     Follows (λ command. IsAskedBy Content gives o language command q l) (form_of is_terminal f) old out answer
 IsAnswerTo gives puts o language is_terminal (args.Check q l name) old out answer = IsAskedBy Content gives o language (Check name) q l old out answer

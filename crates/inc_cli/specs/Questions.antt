@@ -1,5 +1,5 @@
 -- What a run about a source and a header comes to: what it reads and prints, and what that promises.
-use Rattle.std.specs.Prelude.{◌≡◌, ℕ, false, List, [], Option, None, Result, IfErr, IfSome, unwrap_or}
+use Rattle.std.specs.Prelude.{◌≡◌, ℕ, false, List, [], Option, None, Some, Result, IfErr, IfSome, unwrap_or}
 use Rattle.inc_text.specs.declared.devices.ReadFault.{ReadFault}
 use Rattle.inc_lookup.specs.Given.{Given, HoldsOfGiven}
 use Rattle.inc_lookup.specs.Projects.{Listing}
@@ -7,6 +7,7 @@ use Rattle.inc_check.specs.Texts.{OfBytes}
 use Rattle.inc_report.specs.BlankHeadline.{BlankHeadline, PatchHeadline}
 use Rattle.inc_report.specs.BlankText.{IsBlankBy, IsPatchBy}
 use Rattle.inc_report.specs.CheckText.{IsCheckBy}
+use Rattle.inc_report.specs.CostText.{IsCostBy}
 use Rattle.inc_report.specs.CutText.{IsCutBy}
 use Rattle.inc_report.specs.GraphText.{IsGraphBy}
 use Rattle.inc_report.specs.Headline.{CheckHeadline, CutHeadline}
@@ -24,7 +25,7 @@ use Rattle.inc_inputs.specs.Inputs.{Gives, listed}
 use Rattle.inc_inputs.specs.declared.failures.Hindrance.{Hindrance}
 use Rattle.inc_inputs.specs.Reports.{Report}
 use Rattle.inc_inputs.specs.Steps.{Step}
-use Rattle.inc_cli.specs.Commands.{Command, Why, Who, Graph, Cut, Blank, Patch, Named, Rules, Check, certificate_of}
+use Rattle.inc_cli.specs.Commands.{Command, Why, Who, Graph, Cut, Blank, Patch, Named, Rules, Cost, Check, certificate_of, details_of, rules_form}
 use Rattle.inc_cli.specs.Outputs.{Answer, IsRun, Output, ended}
 use Rattle.inc_cli.specs.Runs.{Asked}
 
@@ -49,8 +50,10 @@ IsPrinted gives o Graph a old new p = OfFiles gives a old new (IsGraphBy a.quest
 IsPrinted gives o Cut a old new p = OfFiles gives a old new (IsCutBy a.question a.limits p)
 IsPrinted gives o Blank a old new p = OfFiles gives a old new (IsBlankBy a.question a.limits p)
 IsPrinted gives o Patch a old new p = OfFiles gives a old new (IsPatchBy a.question a.limits p)
-IsPrinted gives o (Named form) a old new p = OfFiles gives a old new (IsNamedBy form a.question a.limits p)
-IsPrinted gives o (Rules name rules) a old new p = OfFiles gives a old new (IsRulesBy rules a.question p)
+IsPrinted gives o (Named form) a old new p = OfFiles gives a old new (IsNamedBy form a.question (details_of (Named form) a.limits) p)
+IsPrinted gives o (Rules None list) a old new p = OfFiles gives a old new (IsRulesBy list.rules a.question p)
+IsPrinted gives o (Rules (Some format) list) a old new p = OfFiles gives a old new (IsNamedBy (rules_form format) a.question (details_of (Rules (Some format) list) a.limits) p)
+IsPrinted gives o (Cost top) a old new p = OfFiles gives a old new (IsCostBy top a.question p)
 IsPrinted gives o (Check name) a old new p =
     OfCertificate o old name (λ text. OfFiles gives a old new (IsCheckBy a.question a.limits text p))
 
@@ -63,8 +66,9 @@ IsPromised gives o Graph a old new p = Unit {0}
 IsPromised gives o Cut a old new p = OfFiles gives a old new (λ given listing. CutHeadline a.question a.limits p listing)
 IsPromised gives o Blank a old new p = OfFiles gives a old new (λ given listing. BlankHeadline a.question a.limits p listing)
 IsPromised gives o Patch a old new p = OfFiles gives a old new (λ given listing. PatchHeadline a.question a.limits p listing)
-IsPromised gives o (Named form) a old new p = OfFiles gives a old new (λ given listing. NamedHeadline form a.question a.limits p listing)
-IsPromised gives o (Rules name rules) a old new p = Unit {0}
+IsPromised gives o (Named form) a old new p = OfFiles gives a old new (λ given listing. NamedHeadline form a.question (details_of (Named form) a.limits) p listing)
+IsPromised gives o (Rules format list) a old new p = Unit {0}
+IsPromised gives o (Cost top) a old new p = Unit {0}
 IsPromised gives o (Check name) a old new p =
     OfCertificate o old name (λ text. OfFiles gives a old new (λ given listing. CheckHeadline a.question a.limits text p listing))
 

@@ -4,23 +4,26 @@ use Rattle.inc_text.specs.declared.languages.Language.{Language}
 use Rattle.inc_lookup.specs.IncludePath.{NamedPath}
 use Rattle.inc_lookup.specs.Projects.{Layout, SearchPath}
 use Rattle.inc_report.specs.Terms as report
-use Rattle.inc_args.specs.Meaning.{Limits, Question}
+use Rattle.inc_args.specs.Meaning.{FileWords, Limits, Question}
 use Rattle.inc_graph.specs.Marks.{Cost, Mark}
 use Rattle.inc_inputs.specs.Ends.{EndPaths, are_ends, asked_ends}
 use Rattle.inc_inputs.specs.IncludePath.{include_path}
 use Rattle.inc_inputs.specs.Inputs.{Gives}
+use Rattle.inc_inputs.specs.ListNotes.{named_layout}
 use Rattle.inc_inputs.specs.NamedPlaces.{Listed, named_places}
 use Rattle.inc_inputs.specs.Places.{Places, places_of}
+use Rattle.inc_inputs.specs.QuestionNotes.{question_notes}
 use Rattle.inc_inputs.specs.Reports.{Report, input_twice, no_ends}
 use Rattle.inc_inputs.specs.Steps.{Step, comes_to, judged, then}
 use Rattle.inc_inputs.specs.ProjectLists.{paths_in}
-use Rattle.inc_inputs.specs.Texts.{AreCosts, Texts, are_twice, listed_layout, texts_beside, texts_of, unless, unless_reported}
+use Rattle.inc_inputs.specs.Texts.{AreCosts, Texts, are_twice, texts_beside, texts_of, unless, unless_reported}
 use Rattle.inc_inputs.specs.BuildProjects.{Added, Found, found_question, none_added, words_fault, words_of_question}
 use Rattle.inc_inputs.specs.BuildPlaces.{include_paths_of, read_with}
 use Rattle.inc_inputs.specs.BuildSteps.{found_if}
 use Rattle.inc_inputs.specs.HeaderNames.{header_notes}
 use Rattle.inc_inputs.specs.ExternalNames.{named_report}
 use Rattle.inc_inputs.specs.RuleLists.{rule_ends}
+use Rattle.inc_inputs.specs.declared.texts.Firsts.{Firsts}
 use Rattle.inc_cli.specs.Commands.{Command, Rules, certificate_of, has_headers, headers_of, rules_name}
 
 -- what a question about a project is asked of
@@ -30,17 +33,17 @@ pub record Asked : Type 0 where
   pub layout : Layout
   pub question : report.Question
   pub limits : report.Limits
-  -- what is noted of a build and of the words for headers
+  -- what is noted of a build, of the words and lists, and of the words for headers
   pub notes : List ℕ
 
 -- between which files a command is asked: where it is about rules, from those that these are about
 abbrev pub ends_for : Command → Layout → Question → Result EndPaths Report
-ends_for (Rules name rules) layout q = rule_ends layout rules
+ends_for (Rules format list) layout q = rule_ends layout list.rules
 ends_for command layout q = asked_ends layout q
 
 -- what is noted of the words that name them
 abbrev pub notes_for : Command → Layout → Question → List ℕ
-notes_for (Rules name rules) layout q = []
+notes_for (Rules format list) layout q = []
 notes_for command layout q = header_notes layout q
 
 -- the words of a question name no sources and headers, or no directives, for this reason
@@ -60,9 +63,11 @@ pub record Opened : Type 0 where
   pub external : List (List ℕ)
   -- the include path
   pub path : NamedPath
+  -- where the lists of directives begin
+  pub firsts : Firsts
 
 -- what a build adds to a question, once the project stands: the include paths beside its own, with which of them its files are read as
--- sources, and notes
+-- sources, and what is noted of it and of the words and lists
 pub record Built : Type 0 where
   pub others : List SearchPath
   pub read_with : List (List ℕ)
@@ -97,11 +102,16 @@ opened_by q texts costs = record {
   is_strict = q.is_strict;
   external = q.external;
   path = include_path q.files [];
+  firsts = texts.firsts;
 }
 
--- by what a build adds
-abbrev pub built_by : Layout → Added → (others : List SearchPath) → Built
-built_by layout a others = record { others = others; read_with = read_with layout a.compiled; notes = a.notes }
+-- by what a build adds, with what is noted of the words and lists
+abbrev pub built_by : Layout → FileWords → Opened → Added → (without fixed : List Mark) → (others : List SearchPath) → Built
+built_by layout files o a without fixed others = record {
+  others = others;
+  read_with = read_with layout a.compiled;
+  notes = a.notes ++ question_notes layout a.is_build files o.paths o.firsts without fixed o.costs;
+}
 
 -- once that is known, and all marks
 abbrev pub asked_marked : {S : Type 0} → Language → Command → Question → Limits → (without fixed : List Mark) → Opened → Layout → Built → Step S Asked
@@ -122,12 +132,12 @@ asked_built gives language command q l without fixed o layout b =
 -- once the project stands, of whose build this is added
 abbrev pub asked_listed : {S : Type 0} → Gives S → Language → Command → Question → Limits → Added → (without fixed : List Mark) → Opened → Layout → Step S Asked
 asked_listed gives language command q l a without fixed o layout =
-    then (comes_to (include_paths_of a.others)) (λ others. asked_built gives language command q l without fixed o layout (built_by layout a others))
+    then (comes_to (include_paths_of a.others)) (λ others. asked_built gives language command q l without fixed o layout (built_by layout q.files o a without fixed others))
 
 -- once the texts are opened
 abbrev pub asked_opened : {S : Type 0} → Gives S → Language → Command → Question → Limits → Added → (without fixed : List Mark) → Opened → Step S Asked
 asked_opened gives language command q l a without fixed o =
-    then (comes_to (listed_layout o.paths o.path)) (λ layout. asked_listed gives language command q l a without fixed o layout)
+    then (comes_to (named_layout q.files o.paths o.path)) (λ layout. asked_listed gives language command q l a without fixed o layout)
 
 -- by the texts
 abbrev pub asked_by : {S : Type 0} → Gives S → Language → Command → Question → Limits → Added → Texts → Step S Asked

@@ -1,7 +1,7 @@
 -- What functions of the program give, as the definitions see it.
 use Rattle.std.specs.Prelude.{ℕ, Bool, List, Option, Result, map}
 use Rattle.inc_lookup.specs.Projects.{Layout}
-use Rattle.inc_rules.specs.Views.{seen_rule}
+use Rattle.inc_report.specs.RuleViews.{seen_list}
 use Rattle.inc_report.specs.Terms.{Question, Limits, PpQuestion}
 use Rattle.inc_report.specs.declared.outcome.End.{End}
 use Rattle.inc_inputs.specs.Reports.{Report}
@@ -32,7 +32,8 @@ seen_command command.Cut = commands.Cut
 seen_command command.Blank = commands.Blank
 seen_command command.Patch = commands.Patch
 seen_command (command.Named form) = commands.Named form
-seen_command (command.Rules name rules) = commands.Rules name.now (map seen_rule rules.now)
+seen_command (command.Rules format list) = commands.Rules format (seen_list list)
+seen_command (command.Cost top) = commands.Cost top
 seen_command (command.Check name) = commands.Check name.now
 
 -- what is asked of files with these paths, beside these notes
@@ -48,6 +49,7 @@ opened_in o = record {
   is_strict = o.is_strict;
   external = map (λ n. n.now) o.external.items;
   path = o.path;
+  firsts = o.firsts;
 }
 
 abbrev pub built_in : Built → runs.Built

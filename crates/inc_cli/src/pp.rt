@@ -17,7 +17,7 @@ use inc_args::PpArgs;
 use inc_check::number_in;
 use inc_inputs::{
     BuildProject, Failure, Inputs, ListedFiles, MacroWord, PpTexts, are_no_files, are_one,
-    are_twice, bytes_of, find_preprocessing, include_path, list_paths, listed_project, path_end_in,
+    are_twice, bytes_of, find_preprocessing, include_path, list_paths, named_project, path_end_in,
     read_pp_texts, read_pp_texts_beside, with_macros, with_questions, write_if,
 };
 use inc_lookup::{NamedDir, NamedPath, Project};
@@ -225,7 +225,7 @@ fn preprocess_texts<I: Inputs, O: ByteSink>(
     let Ok(path) = searched(setup, args, texts) else {
         return (Err(Failure::NoMemory), out);
     };
-    let project = match listed_project(alloc, setup.seed, &paths, &path) {
+    let project = match named_project(alloc, setup.seed, &args.files, &paths, &path) {
         Ok(project) => project,
         Err(failure) => return (Err(failure), out),
     };

@@ -3,13 +3,14 @@ ghost use Rattle.std.specs.Prelude.{◌≡◌, ◌≢◌, ◌&&◌, ◌++◌, no
 ghost use Rattle.inc_args.specs.Views.{seen_limits, seen_question};
 ghost use Rattle.inc_inputs.specs.Ends.{are_ends};
 ghost use Rattle.inc_inputs.specs.Inputs.{listed};
-ghost use Rattle.inc_cli.specs.Commands.{bounded, certificate_of, has_headers, headers_of, rules_name};
+ghost use Rattle.inc_cli.specs.Commands.{bounded, certificate_of, has_headers, headers_of, rules_form, rules_name};
 ghost use Rattle.inc_cli.specs.Outputs.{ended};
 ghost use Rattle.inc_cli.specs.Questions.{IsAnswered, IsAsked, IsKnown, Known, Prints};
 ghost use Rattle.inc_inputs.specs.Reports.{out_of_memory, report_of};
 ghost use Rattle.inc_cli.specs.Runs.{IsUnplaced, asked_built, asked_by, asked_for, asked_found, asked_listed, asked_marked, asked_named, asked_of, built_by, ends_for, listed_by, notes_for};
 ghost use Rattle.inc_inputs.specs.BuildPlaces.{include_paths_of};
 ghost use Rattle.inc_inputs.specs.Places.{places_of};
+ghost use Rattle.inc_inputs.specs.QuestionNotes.{question_notes};
 ghost use Rattle.inc_inputs.specs.ProjectLists.{paths_in};
 ghost use Rattle.inc_inputs.specs.IncludePath.{include_path};
 ghost use Rattle.inc_inputs.specs.NamedPlaces.{named_places};
@@ -26,17 +27,17 @@ use crate::runs::Setup;
 use inc_args::{LimitArgs, QuestionArgs};
 use inc_graph::Cost;
 use inc_inputs::{
-    Added, BuildProject, EndPaths, Failure, Hindrance, Inputs, Listed, ListedFiles, Marked, Places,
-    Texts, are_ends, are_twice, asked_ends, asked_places, bytes_of_words, costs_of, find_question,
-    include_path, list_paths, listed_project, named_failure, named_places, other_paths,
-    path_end_in, read_texts, read_texts_beside, read_with, rule_ends,
+    Added, BuildProject, EndPaths, Failure, Firsts, Hindrance, Inputs, Listed, ListedFiles, Marked,
+    Places, Texts, are_ends, are_twice, asked_ends, asked_places, bytes_of_words, costs_of,
+    find_question, include_path, list_paths, named_failure, named_places, named_project,
+    other_paths, path_end_in, read_texts, read_texts_beside, read_with, rule_ends,
+    with_question_notes,
 };
 use inc_lookup::{IncludePath, NamedPath, Project};
 use inc_report::{
-    End, Limits, NamedForm, Question, RunFault, run_blank, run_check, run_cut, run_graph,
-    run_named, run_patch, run_rules, run_who, run_why,
+    Asked, Details, End, Format, Limits, NamedForm, Question, RuleList, RunFault, run_blank,
+    run_check, run_cost, run_cut, run_graph, run_named, run_patch, run_rules, run_who, run_why,
 };
-use inc_rules::Rule;
 use inc_text::ByteSink;
 use std::alloc::{AllocError, Global};
 use std::mem::replace;
@@ -59,8 +60,10 @@ pub(crate) enum Command<'a> {
     Patch,
     /// Why the sources include the headers, which edges they reach, or which directives to remove, with directives as they are written.
     Named(NamedForm),
-    /// Which of these rules are broken; their list has this name.
-    Rules(&'a str, &'a [Rule<'a>]),
+    /// Which of these rules are broken, as text or with directives as they are written.
+    Rules(Option<Format>, RuleList<'a>),
+    /// What includes cost the sources: at most so many headers, and as many directives.
+    Cost(usize),
     /// Whether the certificate that this word names shows a smallest cut.
     Check(&'a str),
 }
@@ -87,12 +90,12 @@ impl<'a> Command<'a> {
         }
     }
 
-    /// The name of a list of rules.
+    /// What their list is called.
     fn rules_name(self) -> Option<&'a str>
         ensures { option_map (λ n. n.now) result ≡ rules_name (seen_command self.entry) }
     {
         match self {
-            Command::Rules(name, _) => Some(name),
+            Command::Rules(_, list) => Some(list.name),
             _ => None,
         }
     }
@@ -102,7 +105,7 @@ impl<'a> Command<'a> {
         ensures { result ≡ has_headers (seen_command self.entry) }
     {
         match self {
-            Command::Graph | Command::Rules(..) => false,
+            Command::Graph | Command::Rules(..) | Command::Cost(_) => false,
             Command::Named(form) => form.asked.has_headers(),
             _ => true,
         }
@@ -142,6 +145,8 @@ struct Opened<'t> {
     external: Vec<&'t [u8]>,
     /// The include path.
     path: NamedPath<'t>,
+    /// Where the lists of directives begin.
+    firsts: Firsts,
 }
 
 /// Reads what a question rests on, and answers it.
@@ -271,9 +276,12 @@ fn ask_read<I: Inputs, O: ByteSink>(
                 fixed,
                 without,
                 costs,
+                firsts,
             } = texts;
             let marks = Marked { without, fixed };
-            ask_texts(setup, asking, &list, &costs, marks, added, inputs, out)
+            ask_texts(
+                setup, asking, &list, &costs, firsts, marks, added, inputs, out,
+            )
         }
         Err(failure) => (Err(failure), out),
     }
@@ -285,6 +293,7 @@ fn ask_texts<'t, I: Inputs, O: ByteSink>(
     asking: Asking<'t>,
     list: &'t [u8],
     costs: &'t [u8],
+    firsts: Firsts,
     marks: Marked,
     added: Added,
     inputs: I,
@@ -294,15 +303,16 @@ fn ask_texts<'t, I: Inputs, O: ByteSink>(
     ensures { (known : Known) → seen_end result.0 ≢ Err out_of_memory →
         IsAsked I.gives (record { opens = I.opens; left = I.Stream.left }) (seen_command asking.entry.command)
         (asked_by I.gives setup.now.language (seen_command asking.entry.command) (seen_question asking.entry.question.now) (seen_limits asking.entry.limits.now) (added_in added)
-        (record { list = list.now; fixed = marks.fixed.items; without = marks.without.items; costs = costs.now }))
+        (record { list = list.now; fixed = marks.fixed.items; without = marks.without.items; costs = costs.now; firsts = firsts }))
         known inputs (output_of (O.written out) (O.written result.1) (O.has_failed result.1)) (seen_end result.0) }
 {
-    let opened = match open_texts(setup, asking.question, asking.limits, list, costs) {
+    let opened = match open_texts(setup, asking.question, asking.limits, list, costs, firsts) {
         Ok(opened) => opened,
         Err(failure) => return (Err(failure), out),
     };
     let paths = opened.paths.as_slice();
-    let project = match listed_project(setup.alloc, setup.seed, paths, &opened.path) {
+    let files = &asking.question.files;
+    let project = match named_project(setup.alloc, setup.seed, files, paths, &opened.path) {
         Ok(project) => project,
         Err(failure) => return (Err(failure), out),
     };
@@ -327,7 +337,7 @@ fn ask_listed<'p, I: Inputs, O: ByteSink>(
         marks.without.items marks.fixed.items (opened_in opened.entry.now) project.entry.now)
         known inputs (output_of (O.written out) (O.written result.1) (O.has_failed result.1)) (seen_end result.0) }
 {
-    match built_paths(setup, project, added) {
+    match built_paths(setup, asking, opened, project, &marks, added) {
         Ok(built) => ask_built(setup, asking, opened, project, marks, built, inputs, out),
         Err(failure) => (Err(failure), out),
     }
@@ -343,24 +353,86 @@ struct Built {
     notes: Vec<u8>,
 }
 
-/// What a build adds to a question once the project stands.
-fn built_paths(setup: &Setup<'_>, project: &Project<'_>, added: Added) -> Result<Built, Failure>
+/// What a build adds to a question once the project stands, with what is noted of its words and lists.
+fn built_paths(
+    setup: &Setup<'_>,
+    asking: Asking<'_>,
+    opened: &Opened<'_>,
+    project: &Project<'_>,
+    marks: &Marked,
+    added: Added,
+) -> Result<Built, Failure>
     ensures others { IfOk result (λ built. include_paths_of (added_in added).others ≡ Ok built.others.items) }
-    ensures built { IfOk result (λ built. built_in built ≡ built_by project.now (added_in added) built.others.items) }
+    ensures built { IfOk result (λ built. built_in built ≡ built_by project.now (seen_question asking.entry.question.now).files (opened_in opened.now) (added_in added)
+        marks.now.without.items marks.now.fixed.items built.others.items) }
     ensures fault { IfErr result (λ f. report_of f ≢ out_of_memory → include_paths_of (added_in added).others ≡ Err (report_of f)) }
 {
     let others = match other_paths(setup.alloc, setup.seed, &added.others) {
         Ok(others) => others,
         Err(failure) => return Err(failure),
     };
-    match read_with(setup.alloc, project, &added.compiled) {
-        Ok(read_with) => Ok(Built {
-            others,
-            read_with,
-            notes: added.notes,
-        }),
+    match built_of(setup, asking, opened, project, marks, added, others) {
+        Ok(built) => Ok(built),
         Err(_) => Err(Failure::NoMemory),
     }
+}
+
+/// The same with these include paths.
+fn built_of(
+    setup: &Setup<'_>,
+    asking: Asking<'_>,
+    opened: &Opened<'_>,
+    project: &Project<'_>,
+    marks: &Marked,
+    added: Added,
+    others: Vec<IncludePath>,
+) -> Result<Built, AllocError>
+    ensures others { IfOk result (λ built. built.others.items ≡ others.items) }
+    ensures built { IfOk result (λ built. built_in built ≡ built_by project.now (seen_question asking.entry.question.now).files (opened_in opened.now) (added_in added)
+        marks.now.without.items marks.now.fixed.items others.items) }
+{
+    let read_with = read_with(setup.alloc, project, &added.compiled)?;
+    let notes = noted(
+        setup,
+        asking,
+        opened,
+        project,
+        marks,
+        added.is_build,
+        added.notes,
+    )?;
+    Ok(Built {
+        others,
+        read_with,
+        notes,
+    })
+}
+
+/// Notes, and what is noted of the words and lists of a question.
+fn noted(
+    setup: &Setup<'_>,
+    asking: Asking<'_>,
+    opened: &Opened<'_>,
+    project: &Project<'_>,
+    marks: &Marked,
+    is_build: bool,
+    notes: Vec<u8>,
+) -> Result<Vec<u8>, AllocError>
+    ensures { let o = opened_in opened.now in IfOk result (λ all. all.items ≡ notes.items
+        ++ question_notes project.now is_build (seen_question asking.entry.question.now).files o.paths o.firsts marks.now.without.items marks.now.fixed.items o.costs) }
+{
+    with_question_notes(
+        setup.alloc,
+        project,
+        is_build,
+        &asking.question.files,
+        &opened.paths,
+        opened.firsts,
+        &marks.without,
+        &marks.fixed,
+        &opened.costs,
+        notes,
+    )
 }
 
 /// The same of a project with what a build adds.
@@ -582,7 +654,7 @@ fn ends_for<'p>(
     ensures notes { IfOk result (λ ends. ends.notes.items ≡ notes_for (seen_command command.entry) project.now (seen_question question.now)) }
 {
     match command {
-        Command::Rules(_, rules) => rule_ends(alloc, project, rules),
+        Command::Rules(_, list) => rule_ends(alloc, project, list.rules),
         _ => asked_ends(alloc, project, question),
     }
 }
@@ -594,6 +666,7 @@ fn open_texts<'t>(
     limits: &LimitArgs<'_>,
     list: &'t [u8],
     costs: &'t [u8],
+    firsts: Firsts,
 ) -> Result<Opened<'t>, Failure>
     ensures costs { IfOk result (λ opened. AreCosts (unwrap_or (seen_limits limits.now).costs []) costs.now (Ok opened.costs.items)) }
     ensures paths { IfOk result (λ opened. map (λ p. p.now) opened.paths.items
@@ -602,6 +675,7 @@ fn open_texts<'t>(
     ensures strict { IfOk result (λ opened. opened.is_strict ≡ (seen_question question.now).is_strict) }
     ensures external { IfOk result (λ opened. map (λ n. n.now) opened.external.items ≡ (seen_question question.now).external) }
     ensures path { IfOk result (λ opened. opened.path ≡ include_path (seen_question question.now).files []) }
+    ensures firsts { IfOk result (λ opened. opened.firsts ≡ firsts) }
     ensures fault { IfErr result (λ failure.
         AreCosts (unwrap_or (seen_limits limits.now).costs []) costs.now (Err (report_of failure))) }
 {
@@ -618,16 +692,17 @@ fn open_texts<'t>(
         is_strict: question.is_strict,
         external,
         path,
+        firsts,
     })
 }
 
 /// Answers a question of a project whose files are these.
-fn answer<I: Inputs, O: ByteSink>(
+fn answer<'l, I: Inputs, O: ByteSink>(
     alloc: Global,
-    command: Command<'_>,
+    command: Command<'l>,
     project: &Project<'_>,
     question: &Question<'_>,
-    limits: &Limits<'_>,
+    limits: &'l Limits<'l>,
     files: ListedFiles<'_, I>,
     out: O,
 ) -> (Result<End, RunFault>, O)
@@ -665,10 +740,26 @@ fn answer<I: Inputs, O: ByteSink>(
             (ended, out)
         }
         Command::Named(form) => {
-            let (ended, _, out) = run_named(alloc, project, files, question, limits, form, out);
+            let rules = RuleList::none();
+            let details = Details { limits, rules };
+            let (ended, _, out) = run_named(alloc, project, files, question, &details, form, out);
             (ended, out)
         }
-        Command::Rules(_, rules) => { run_rules(alloc, project, &mut files, question, rules, out) }
+        Command::Rules(format, rules) => match format {
+            None => run_rules(alloc, project, &mut files, question, rules.rules, out),
+            Some(format) => {
+                let details = Details { limits, rules };
+                let form = rules_form(format);
+                let (ended, _, out) = run_named(
+                    alloc, project, files, question, &details, form, out,
+                );
+                (ended, out)
+            }
+        },
+        Command::Cost(top) => {
+            let (ended, _, out) = run_cost(alloc, project, files, question, top, out);
+            (ended, out)
+        }
         Command::Check(name) => match files.inputs.open(alloc, name) {
             Ok(stream) => {
                 let mut stream = stream;
@@ -684,6 +775,19 @@ fn answer<I: Inputs, O: ByteSink>(
             }
             Err(_) => (Err(RunFault::NoMemory), out),
         },
+    }
+}
+
+/// Rules in a format.
+fn rules_form(format: Format) -> NamedForm
+    ensures { result ≡ rules_form format }
+{
+    NamedForm {
+        asked: Asked::Rules,
+        format,
+        all: false,
+        fails: false,
+        most: None,
     }
 }
 

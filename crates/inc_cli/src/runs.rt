@@ -5,7 +5,7 @@ ghost use Rattle.inc_args.specs.CompilerWords.{as_options};
 ghost use Rattle.inc_args.specs.Meaning.{meaning};
 ghost use Rattle.inc_args.specs.Views.{seen_arguments, seen_format, seen_forms, seen_languages, seen_question, seen_request};
 ghost use Rattle.inc_cli.specs.Languages.{language_of};
-ghost use Rattle.inc_cli.specs.Processes.{default_format, form_of, format_named, formatted, in_format, most_of, of_files, scan_form, who_of, IsAnswer, IsAnswerFrom, IsAnswerTo, IsPromise, IsPromiseFrom, IsPromiseOf, IsRefusedRun, IsTold, IsToldRun};
+ghost use Rattle.inc_cli.specs.Processes.{cost_of, default_format, form_of, format_named, formatted, in_format, most_of, of_files, rules_format, scan_form, who_of, IsAnswer, IsAnswerFrom, IsAnswerTo, IsPromise, IsPromiseFrom, IsPromiseOf, IsRefusedRun, IsTold, IsToldRun};
 ghost use Rattle.inc_inputs.specs.Reports.{out_of_memory};
 ghost use Rattle.inc_cli.specs.Views.{output_of, seen_command, seen_end};
 ghost use Rattle.inc_inputs.specs.Views.{seen};
@@ -250,9 +250,16 @@ fn answer_in<I: Inputs, O: ByteSink>(
                 Err(failure) => (Err(failure), out),
             }
         }
-        Request::Rules(question, words) => {
-            ask_rules(setup, question, words, &no_limits, inputs, out)
+        Request::Rules(question, words, format) => {
+            match rules_format(setup.is_terminal, format.name) {
+                Ok(format) => ask_rules(setup, format, question, words, &no_limits, inputs, out),
+                Err(failure) => (Err(failure), out),
+            }
         }
+        Request::Cost(question, top) => match cost_of(*top) {
+            Ok(command) => ask(setup, command, question, &no_limits, inputs, out),
+            Err(failure) => (Err(failure), out),
+        },
         Request::Cut(question, limits, forms) => match form_of(setup.is_terminal, *forms) {
             Ok(command) => {
                 keep_large_blocks(setup.alloc);
@@ -282,6 +289,37 @@ fn who_of(
         return formatted(is_terminal, format, text, Asked::Who);
     }
     Err(Failure::NoHeaders)
+}
+
+/// How many headers and directives are printed of what includes cost, where no number is given.
+const TOP: usize = 20;
+
+/// What includes cost, of which this word says how much is printed.
+fn cost_of(top: Option<&str>) -> Result<Command<'static>, Failure>
+    ensures { seen seen_command result ≡ cost_of (option_map (λ w. w.now) top.entry) }
+{
+    let Some(word) = top else {
+        return Ok(Command::Cost(TOP));
+    };
+    match number_in(word.as_bytes()) {
+        Some(most) => Ok(Command::Cost(most as usize)),
+        None => Err(Failure::NoTop),
+    }
+}
+
+/// The format of this name in which rules are printed: none for text, or one in which directives stand as they are written. Where none is
+/// named, it is that of a terminal, or text.
+fn rules_format(is_terminal: bool, name: Option<&str>) -> Result<Option<Format>, Failure>
+    ensures { seen (λ format. format) result ≡ rules_format is_terminal (option_map (λ n. n.now) name.entry) }
+{
+    let word = name.unwrap_or(default_format(is_terminal));
+    if word == "text" {
+        return Ok(None);
+    }
+    let Some(format) = format_named(word) else {
+        return Err(Failure::NoFormat);
+    };
+    Ok(Some(format))
 }
 
 /// The command of a cut in the form that is asked for; `--blank` and `--patch` exclude each other and a format.

@@ -24,4 +24,5 @@ pub mod RuleLines
 pub mod QuestionLemmas
 pub mod SourceLemmas
 pub mod StepLemmas
+pub mod WordNotes
 pub mod WrittenLemmas

@@ -5,7 +5,7 @@ use Rattle.std.specs.List.{slice_split}
 use Rattle.std.proofs.lemmas.List.{append_assoc, append-nil, take_rest, drop-drop, length-drop}
 use Rattle.inc_graph.specs.Marks.{Mark}
 use Rattle.inc_check.specs.Reading.{number_behind}
-use Rattle.inc_inputs.specs.MarkLists.{but_last, cut_or_all, first_marks, line_marks, lines_of, listed_mark, marks_from, marks_in, with_marks}
+use Rattle.inc_inputs.specs.MarkLists.{but_last, cut_or_all, first_line, first_marks, first_of, line_marks, lines_of, listed_mark, marks_from, marks_in, with_marks}
 use Rattle.inc_inputs.proofs.ListLemmas.{split_at, split_none, pieces_left}
 
 abbrev pub ends : ℕ → Bool
@@ -121,3 +121,11 @@ counted_lines text n count found is = rw take_rest (by_first text n found (Some 
 pub other_lines : (text : List ℕ) (n : ℕ) → Some n ≡ position ends text → None ≡ number_behind (codes "cut ") (take n text)
     → marks_in (lines_of text) ≡ marks_from 1 (lines_of text)
 other_lines text n found is = by_first text n found None is ∙ ap (marks_from 1) (sym (line_at text n (sym found)).0)
+
+-- where the first one is
+pub no_first : (text : List ℕ) → None ≡ position ends text → 1 ≡ first_line (lines_of text)
+no_first text missing = ap first_line (sym (line_none text (sym missing)))
+
+pub counted_first : (text : List ℕ) (n : ℕ) → Some n ≡ position ends text → (o : Option ℕ) → o ≡ number_behind (codes "cut ") (take n text)
+    → first_of o ≡ first_line (lines_of text)
+counted_first text n found o is = ap first_of is ∙ sym (ap first_line (line_at text n (sym found)).0)

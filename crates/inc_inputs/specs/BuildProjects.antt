@@ -510,6 +510,8 @@ notes_of files absent skipped ds = absent_notes absent ++ some_lines (map skippe
 
 -- what a build adds to the words of a question
 pub record Added : Type 0 where
+  -- there is one
+  pub is_build : Bool
   pub notes : List ℕ
   -- the include paths beside that of the project
   pub others : List Dirs
@@ -518,7 +520,7 @@ pub record Added : Type 0 where
 
 -- where there is no build
 abbrev pub none_added : Added
-none_added = record { notes = []; others = []; compiled = [] }
+none_added = record { is_build = false; notes = []; others = []; compiled = [] }
 
 -- the project as data: its files, each path ended by NUL, its include path, and the words in place of those of the question
 pub record Found : Type 0 where
@@ -538,6 +540,7 @@ macros_of g (u ∷ us) = macros_at g u.entry
 
 abbrev pub added_by : Ground → (files : List (List ℕ)) → Chosen → (own : Dirs) → (others : List Dirs) → List BuildSource → Added
 added_by g files c own others compiled = record {
+  is_build = true;
   notes = notes_of files c.absent (skipped_of g.entries [] c.uses) (own ∷ others);
   others = others;
   compiled = compiled;

@@ -77,6 +77,15 @@ abbrev pub marks_in : List (List ℕ) → Result (List Mark) ℕ
 marks_in [] = Ok []
 marks_in (l ∷ ls) = cut_or_all (number_behind (codes "cut ") l) l ls
 
+-- the number of the line of the first of them
+abbrev pub first_of : Option ℕ → ℕ
+first_of (Some n) = 2
+first_of None = 1
+
+abbrev pub first_line : List (List ℕ) → ℕ
+first_line [] = 1
+first_line (l ∷ ls) = first_of (number_behind (codes "cut ") l)
+
 ---- a text
 
 -- the lines that are ended
@@ -89,6 +98,18 @@ but_last (l ∷ next ∷ ls) = l ∷ but_last (next ∷ ls)
 abbrev pub lines_of : List ℕ → List (List ℕ)
 lines_of text = but_last (slice_split (λ b. b == line_feed) text)
 
+-- marks that were read of a list, and the line of the first
+pub record MarkList : Type 0 where
+  pub marks : List Mark
+  pub first : ℕ
+
+-- a list that is not there
+abbrev pub no_marks : MarkList
+no_marks = record { marks = []; first = 1 }
+
 -- the marks of a list, in order, or the number of its first line that holds none
 abbrev pub listed_marks : List ℕ → Result (List Mark) ℕ
 listed_marks text = marks_in (lines_of (whole_lines text))
+
+abbrev pub first_listed : List ℕ → ℕ
+first_listed text = first_line (lines_of (whole_lines text))

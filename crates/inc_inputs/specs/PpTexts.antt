@@ -44,7 +44,7 @@ pp_texts_beside gives language list p =
     then (defined_by gives language true p.compiler) (λ compiler.
     then (defined_by gives language false p.defines) (λ defines.
     then (marks_of gives p.without) (λ without.
-    comes_to (Ok (record { list = list; compiler = compiler; defines = defines.words; without = without })))))
+    comes_to (Ok (record { list = list; compiler = compiler; defines = defines.words; without = without.marks })))))
 
 abbrev pub pp_texts : {S : Type 0} → Gives S → Language → Preprocessing → Step S PpTexts
 pp_texts gives language p = then (list_of gives p.files) (λ list. pp_texts_beside gives language list p)

@@ -88,6 +88,9 @@ no_format = record { message = codes "--format is text, gcc, json or dot"; statu
 abbrev pub no_most : Report
 no_most = record { message = codes "--max is a number"; status = 2 }
 
+abbrev pub no_top : Report
+no_top = record { message = codes "--top is a number"; status = 2 }
+
 abbrev pub no_most_read : Report
 no_most_read = record { message = codes "--most-read is a number"; status = 2 }
 
@@ -168,6 +171,7 @@ report_of (failure.FileTooLong path) = file_too_long path.items
 report_of failure.TooManyFiles = too_many_files
 report_of (failure.BadPath path) = bad_path path.items
 report_of (failure.SamePath path) = same_path path.items
+report_of (failure.NoList text) = record { message = text.items; status = 4 }
 report_of (failure.MalformedList at) = malformed_list at.items
 report_of (failure.MalformedCompiler at) = malformed_compiler at.items
 report_of failure.InputTwice = input_twice
@@ -175,6 +179,7 @@ report_of failure.TwoForms = two_forms
 report_of failure.FormatOfFiles = format_of_files
 report_of failure.NoFormat = no_format
 report_of failure.NoMost = no_most
+report_of failure.NoTop = no_top
 report_of failure.NoMostRead = no_most_read
 report_of failure.NoMostOutput = no_most_output
 report_of failure.NoScanFormat = no_scan_format

@@ -9,10 +9,11 @@ use Rattle.inc_check.specs.Texts.{CostsFormat, IsCostsText, IsMalformed, whole_l
 use Rattle.inc_args.specs.Meaning.{Limits, Question}
 use Rattle.inc_inputs.specs.IncludePath.{dir_names}
 use Rattle.inc_inputs.specs.Inputs.{Gives}
-use Rattle.inc_inputs.specs.MarkLists.{listed_marks}
+use Rattle.inc_inputs.specs.MarkLists.{MarkList, first_listed, listed_marks, no_marks}
 use Rattle.inc_inputs.specs.ProjectLists.{list_of}
 use Rattle.inc_inputs.specs.Reports.{IsListReport, Report, project_report}
 use Rattle.inc_inputs.specs.Steps.{Step, comes_to, judged, reads, reads_if, then}
+use Rattle.inc_inputs.specs.declared.texts.Firsts.{Firsts}
 
 ---- words
 
@@ -43,13 +44,13 @@ unless_reported None step = step
 ---- lists
 
 -- the directives of the text of a list of this name, or where it is malformed
-abbrev pub AreMarks : (name text : List ℕ) → Result (List Mark) Report → Type 0
-AreMarks name text (Ok marks) = listed_marks text ≡ Ok marks
+abbrev pub AreMarks : (name text : List ℕ) → Result MarkList Report → Type 0
+AreMarks name text (Ok list) = (listed_marks text ≡ Ok list.marks) × (list.first ≡ first_listed text)
 AreMarks name text (Err r) = IsListReport (λ line. listed_marks text ≡ Err line) name r
 
 -- none where no list is named
-abbrev pub marks_of : {S : Type 0} → Gives S → Option (List ℕ) → Step S (List Mark)
-marks_of gives None = comes_to (Ok [])
+abbrev pub marks_of : {S : Type 0} → Gives S → Option (List ℕ) → Step S MarkList
+marks_of gives None = comes_to (Ok no_marks)
 marks_of gives (Some name) = then (reads gives name) (λ text. judged (AreMarks name text))
 
 -- the costs of the text of a list of this name, or where it is malformed
@@ -65,6 +66,17 @@ pub record Texts : Type 0 where
   pub without : List Mark
   -- that of the costs, each line ended by LF alone
   pub costs : List ℕ
+  -- the lines of the first directives of these lists
+  pub firsts : Firsts
+
+abbrev pub texts_by : (list : List ℕ) → (fixed without : MarkList) → (costs : List ℕ) → Texts
+texts_by list fixed without costs = record {
+  list = list;
+  fixed = fixed.marks;
+  without = without.marks;
+  costs = whole_lines costs;
+  firsts = record { without = without.first; fixed = fixed.first };
+}
 
 -- where the list of files is known
 abbrev pub texts_beside : {S : Type 0} → Gives S → (list : List ℕ) → Question → Limits → Step S Texts
@@ -72,7 +84,7 @@ texts_beside gives list q l =
     then (marks_of gives l.fixed) (λ fixed.
     then (marks_of gives q.without) (λ without.
     then (reads_if gives l.costs) (λ costs.
-    comes_to (Ok (record { list = list; fixed = fixed; without = without; costs = whole_lines costs })))))
+    comes_to (Ok (texts_by list fixed without costs)))))
 
 abbrev pub texts_of : {S : Type 0} → Gives S → Question → Limits → Step S Texts
 texts_of gives q l = then (list_of gives q.files) (λ list. texts_beside gives list q l)

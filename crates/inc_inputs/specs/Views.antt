@@ -8,6 +8,7 @@ use Rattle.inc_inputs.specs.BuildNotes as notes
 use Rattle.inc_inputs.specs.BuildProjects.{Found, macro_word}
 use Rattle.inc_inputs.specs.BuildProjects as builds
 use Rattle.inc_inputs.specs.Ends as ends
+use Rattle.inc_inputs.specs.MarkLists as lists
 use Rattle.inc_inputs.specs.NamedPlaces as named
 use Rattle.inc_inputs.specs.Places as places
 use Rattle.inc_inputs.specs.PpTexts as pp
@@ -35,6 +36,7 @@ use Rattle.inc_inputs.specs.declared.places.Places.{Places}
 use Rattle.inc_inputs.specs.declared.pp_texts.Defined.{Defined}
 use Rattle.inc_inputs.specs.declared.pp_texts.PpTexts.{PpTexts}
 use Rattle.inc_inputs.specs.declared.questions.Answered.{Answered}
+use Rattle.inc_inputs.specs.declared.texts.MarkList.{MarkList}
 use Rattle.inc_inputs.specs.declared.texts.Texts.{Texts}
 
 -- the value as `f` shows it, or the report of a failure
@@ -48,8 +50,15 @@ seen_text result = seen (λ text. text.items) result
 abbrev pub seen_marks : Result (Vec Mark) Failure → Result (List Mark) Report
 seen_marks result = seen (λ marks. marks.items) result
 
+abbrev pub mark_list_in : MarkList → lists.MarkList
+mark_list_in l = record { marks = l.marks.items; first = l.first }
+
+abbrev pub seen_mark_list : Result MarkList Failure → Result lists.MarkList Report
+seen_mark_list result = seen mark_list_in result
+
 abbrev pub texts_in : Texts → texts.Texts
-texts_in t = record { list = t.list.items; fixed = t.fixed.items; without = t.without.items; costs = t.costs.items }
+texts_in t =
+    record { list = t.list.items; fixed = t.fixed.items; without = t.without.items; costs = t.costs.items; firsts = t.firsts }
 
 abbrev pub seen_texts : Result Texts Failure → Result texts.Texts Report
 seen_texts result = seen texts_in result
@@ -127,7 +136,8 @@ abbrev pub source_in : BuildSource → builds.BuildSource
 source_in s = record { path = s.path.items; paths = s.paths.items }
 
 abbrev pub added_in : Added → builds.Added
-added_in a = record { notes = a.notes.items; others = map dirs_in a.others.items; compiled = map source_in a.compiled.items }
+added_in a =
+    record { is_build = a.is_build; notes = a.notes.items; others = map dirs_in a.others.items; compiled = map source_in a.compiled.items }
 
 abbrev pub project_in : BuildProject → Found
 project_in b = record {

@@ -139,7 +139,7 @@ fn front_of(folder: &[u8]) -> &[u8]
 }
 
 /// Whether a path begins with `/`.
-fn is_absolute(path: &[u8]) -> bool
+pub(crate) fn is_absolute(path: &[u8]) -> bool
     ensures { result ≡ is_absolute path.now }
 {
     path.first() == Some(&b'/')

@@ -44,6 +44,8 @@ pub struct BuildProject {
 /// What a build adds to the words of a question.
 #[derive(Drop)]
 pub struct Added {
+    /// Whether there is a build.
+    pub is_build: bool,
     /// What is noted.
     pub notes: Vec<u8>,
     /// The directories of the include paths beside the project's own.
@@ -58,6 +60,7 @@ impl Added {
         ensures { added_in result ≡ spec.none_added }
     {
         Added {
+            is_build: false,
             notes: Vec::new(alloc),
             others: Vec::new(alloc),
             compiled: Vec::new(alloc),
@@ -347,6 +350,7 @@ fn added_by(
     let compiled = compiled_of(alloc, ground, used)?;
     let notes = notes_of(alloc, seed, ground, found, choice, own, &others)?;
     Ok(Added {
+        is_build: true,
         notes,
         others,
         compiled,

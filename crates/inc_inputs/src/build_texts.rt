@@ -1,5 +1,5 @@
 //! What is reported and noted of a build.
-ghost use Rattle.std.specs.Prelude.{◌≡◌, ◌≢◌, ◌++◌, List, ℕ, suc, IfOk, OnOk, codes, decimal, get_or, map};
+ghost use Rattle.std.specs.Prelude.{◌≡◌, ◌≢◌, ◌++◌, List, ℕ, suc, IfOk, OnOk, codes, decimal, get_or, map, nat_lt};
 ghost use Rattle.inc_build.specs.Views.{seen_entry};
 ghost use Rattle.inc_inputs.specs.BuildNotes as kept;
 ghost use Rattle.inc_inputs.specs.BuildProjects.{file_at};
@@ -26,7 +26,7 @@ pub(crate) fn one_more(number: usize) -> Result<usize, AllocError>
 }
 
 /// Adds a number.
-fn put_number(text: &mut Vec<u8>, number: usize) -> Result<(), AllocError>
+pub(crate) fn put_number(text: &mut Vec<u8>, number: usize) -> Result<(), AllocError>
     ensures { OnOk result (text.new.items ≡ text.old.items ++ decimal number) }
 {
     let mut buffer = Buffer::new();
@@ -266,8 +266,15 @@ impl Notes {
         self.add(&line)
     }
 
+    /// Whether one more line is kept, and not only counted.
+    pub(crate) fn has_room(&self) -> bool
+        ensures { result ≡ nat_lt self.now.count 10 }
+    {
+        self.count < MOST_NOTES
+    }
+
     /// Adds a line, if it is one of the first.
-    fn add(&mut self, line: &[u8]) -> Result<(), AllocError>
+    pub(crate) fn add(&mut self, line: &[u8]) -> Result<(), AllocError>
         ensures { OnOk result (notes_in self.new ≡ kept.with_line (notes_in self.old) line.now) }
     {
         let count = one_more(self.count)?;
@@ -291,7 +298,7 @@ impl Notes {
 }
 
 /// Adds a note.
-fn put_note(notes: &mut Vec<u8>, line: &[u8]) -> Result<(), AllocError>
+pub(crate) fn put_note(notes: &mut Vec<u8>, line: &[u8]) -> Result<(), AllocError>
     ensures { OnOk result (notes.new.items ≡ notes.old.items ++ note_line line.now) }
 {
     notes.extend_from_slice(b"incut: note: ")?;

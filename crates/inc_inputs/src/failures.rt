@@ -52,6 +52,8 @@ pub enum Failure {
     BadPath(Vec<u8>),
     /// A path of the list names a file that an earlier path of the list names.
     SamePath(Vec<u8>),
+    /// The list makes no project, and looks like JSON: what is reported of it, and a line on that.
+    NoList(Vec<u8>),
     /// A list of directives or of costs is malformed, at this line and of this path: `N of PATH`.
     MalformedList(Vec<u8>),
     /// The same of what describes a compiler.
@@ -72,6 +74,8 @@ pub enum Failure {
     NoScanFormat,
     /// How many chains are printed at most is no number.
     NoMost,
+    /// How many headers and directives are printed at most is no number.
+    NoTop,
     /// How many bytes are read at most is no number.
     NoMostRead,
     /// How many bytes are printed at most is no number.
@@ -427,6 +431,7 @@ impl Failure {
             Failure::FormatOfFiles => (b"--format excludes --blank and --patch", b""),
             Failure::NoFormat => (b"--format is text, gcc, json or dot", b""),
             Failure::NoMost => (b"--max is a number", b""),
+            Failure::NoTop => (b"--top is a number", b""),
             Failure::NoMostRead => (b"--most-read is a number", b""),
             Failure::NoMostOutput => (b"--most-output is a number", b""),
             Failure::NoScanFormat => (b"--format of scan is text, gcc or json", b""),
@@ -440,6 +445,7 @@ impl Failure {
             | Failure::Build(text)
             | Failure::FitsNone(text)
             | Failure::NoDirective(text)
+            | Failure::NoList(text)
             | Failure::MalformedRules(text) => (b"", text),
             Failure::NoRules => (b"name RULES, or give rules with -e", b""),
             Failure::NoSubject => (b"no rule is about a file of the project", b""),
@@ -462,6 +468,7 @@ impl Failure {
             | Failure::FormatOfFiles
             | Failure::NoFormat
             | Failure::NoMost
+            | Failure::NoTop
             | Failure::NoMostRead
             | Failure::NoMostOutput
             | Failure::NoScanFormat
@@ -479,6 +486,7 @@ impl Failure {
             | Failure::TooManyFiles
             | Failure::BadPath(_)
             | Failure::SamePath(_)
+            | Failure::NoList(_)
             | Failure::MalformedList(_)
             | Failure::MalformedCompiler(_)
             | Failure::FitsNone(_)

@@ -4,7 +4,7 @@ ghost use Rattle.std.specs.Char.{is_ascii_digit};
 ghost use Rattle.std.specs.List.{prefix_len};
 ghost use Rattle.inc_check.specs.Reading.{mark_with, number_in};
 ghost use Rattle.inc_check.specs.declared.read_texts.CertFault.TheVariants as fault;
-ghost use Rattle.inc_inputs.specs.MarkLists.{begins_number, first_marks, front_digits, lines_of, listed_mark, marks_from, marks_in, place_from, placed_mark};
+ghost use Rattle.inc_inputs.specs.MarkLists.{begins_number, first_line, first_marks, front_digits, lines_of, listed_mark, marks_from, marks_in, place_from, placed_mark};
 ghost use Rattle.inc_text.specs.Ascii.{colon, line_feed};
 
 use crate::file_lists::first_end;
@@ -24,6 +24,19 @@ pub(crate) fn marks_in(alloc: Global, text: &[u8]) -> Result<Vec<Mark>, CertFaul
     match number_behind(b"cut ", &text[..end]) {
         Some(count) => first_marks(alloc, &text[end + 1..], count),
         None => all_marks(alloc, text),
+    }
+}
+
+/// The line of the first directive of a text, whose lines are all ended.
+pub(crate) fn first_line(text: &[u8]) -> usize
+    ensures { result ≡ first_line (lines_of text.now) }
+{
+    let Some(end) = first_end(text, b'\n') else {
+        return 1;
+    };
+    match number_behind(b"cut ", &text[..end]) {
+        Some(_) => 2,
+        None => 1,
     }
 }
 

@@ -77,7 +77,7 @@ fn is_name(text: &[u8]) -> bool
 }
 
 /// Whether a text begins and ends with these bytes.
-fn is_between(first: u8, last: u8, text: &[u8]) -> bool
+pub(crate) fn is_between(first: u8, last: u8, text: &[u8]) -> bool
     ensures { result ≡ is_between first last text.now }
 {
     text.len() > 1 && text[0] == first && text[text.len() - 1] == last

@@ -77,7 +77,7 @@ pub fn read_pp_texts_beside<I: Inputs>(
         list,
         compiler,
         defines,
-        without,
+        without: without.marks,
     })
 }
 

@@ -12,7 +12,7 @@ use inc_lookup::{NamedDir, NamedPath, Project, named_path};
 use std::alloc::{AllocError, Global};
 
 /// The project of files with these paths and of this include path, with the seed of its table.
-pub fn listed_project<'a>(
+pub(crate) fn listed_project<'a>(
     alloc: Global,
     seed: u64,
     paths: &'a [&'a [u8]],

@@ -39,6 +39,8 @@ use Rattle.inc_report.proofs.BlankedCuts.{blanked_cut_keeps_headers_out}
 use Rattle.inc_report.proofs.ChangedListings.{changed_is_blanked}
 use Rattle.inc_report.proofs.HeadlineLemmas.{IsTold, told_of, stated_yes, stated_no, unhindered_told, ends_apart, answered_negative, unless_told, wholly_fixed}
 use Rattle.inc_report.proofs.KeptOut.{of_names_once}
+use Rattle.inc_report.proofs.InnerSources as inner
+use Rattle.inc_report.proofs.InnerSources.{unread_all}
 use Rattle.inc_report.proofs.KeptLemmas.{fits_given, fits_unread, holds_inner, kept_given}
 use Rattle.inc_report.proofs.KnownParts.{OfKnown}
 use Rattle.inc_report.proofs.QuestionLemmas.{answer_all}
@@ -69,12 +71,6 @@ module _ {S : Type 0} (gives : S → ℕ → Result (List ℕ) ReadFault → S �
       (λ given listing gave laid agrees is. (answer_all (λ l g r. ⊥) (Then listing) q listing p (λ g none. absurd none) is.0, is.1))
 
   ---- files that are not read
-
-  unread_all : (given : List Given) (file : ℕ) → list_any (λ (g : Given). g.file == file) given ≡ false → All (λ (g : Given). g.file ≢ file) given
-  unread_all [] file none = All-nil (λ (g : Given). g.file ≢ file)
-  unread_all (g ∷ gs) file none =
-      let parts = or_parts (g.file == file) (list_any (λ (x : Given). x.file == file) gs) none in
-      All-cons (λ (x : Given). x.file ≢ file) g gs (eqb-false g.file file parts.0) (unread_all gs file parts.1)
 
   module _ (graph : Graph) (known : IsKnown layout graph) (n : ℕ) (none : old.files ≡ replicate n None) (long : n ≡ length layout.paths)
       (holds : HoldsOfGiven (keeps gives) old new layout (IsAnswerBy (λ l g r. g ≡ graph) q (answered []))) where
@@ -108,33 +104,11 @@ module _ {S : Type 0} (gives : S → ℕ → Result (List ℕ) ReadFault → S �
         kept_when (list_any (λ (g : Given). g.file == (get_or graph.edges k d).from) holds.given) k (get_or graph.edges k d) (slice_get-get_or graph.edges k d low)
         (omega (arith, inner.from_within, known.files)) refl
 
-  ---- a file that was not read
-
-  failed : (file : ℕ) (why : ReadFault) → ((state : KeptSources S) → keeps gives state file (Err why) new → gives state.sources file (Err why) new.sources)
-      → FailsAt (keeps gives) old new layout q (file, why) → FailsAt gives old.sources new.sources layout q (file, why)
-  failed file why inner f = (
-    f.0,
-    f.1,
-    f.2,
-    f.3,
-    record {
-      state = f.4.state.sources;
-      before = holds_inner gives old f.4.state layout _ _ f.4.before (λ given listing gave laid agrees is. is);
-      failed = inner f.4.state f.4.failed;
-    },
-  )
-
   pub fails_inner : (cause : NoGraph) (result : Result End RunFault) → IfErr result (λ f. IfSome (unread_of f) (λ r. unread_by cause ≡ Some r))
       → IfSome (unread_by cause) (FailsAt (keeps gives) old new layout q)
       → IfErr result (λ f. IfSome (unread_of f) (FailsAt gives old.sources new.sources layout q))
-  fails_inner cause (Ok end) is fails = tt
-  fails_inner cause (Err (fault.CannotRead file)) is fails =
-      failed file read.Read (λ state given. given) (subst (λ o. IfSome o (FailsAt (keeps gives) old new layout q)) is fails)
-  fails_inner cause (Err (fault.FileTooLong file)) is fails =
-      failed file read.TooLong (λ state given. given) (subst (λ o. IfSome o (FailsAt (keeps gives) old new layout q)) is fails)
-  fails_inner cause (Err fault.CannotReadCertificate) is fails = tt
-  fails_inner cause (Err fault.Write) is fails = tt
-  fails_inner cause (Err fault.NoMemory) is fails = tt
+  fails_inner =
+      inner.fails_inner gives (keeps gives) (λ (s : KeptSources S). s.sources) (λ older file bytes newer h. h.0) new layout q old (λ state file h. h) (λ state file h. h)
 
 ---- what it promises
 

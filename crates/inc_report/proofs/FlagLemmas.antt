@@ -40,6 +40,12 @@ flagging_chain chain old now new cs all place c low at more before =
     drop_more cs place c low ∙ ap (λ y. y ∷ drop (place + 1) cs) (get_or_from_slice_get cs place c c at) in
     flagging_goes_on old now new (chain c) (flat_map chain (drop (place + 1) cs)) all more (subst (λ l. Flagging old now (flat_map chain l) all) here before)
 
+-- the same of a list that is gone through by its elements
+pub flagging_item : {X : Type 0} (chain : X → List ℕ) (old now new : List Bool) (cs : List X) (all : List ℕ) (place : ℕ) (c : X) → place < length cs → c ≡ get_or cs place c
+    → ((d : List ℕ) → AreFlags d now → AreFlags (d ++ chain c) new) → Flagging old now (flat_map chain (drop place cs)) all → Flagging old new (flat_map chain (drop (place + 1) cs)) all
+flagging_item chain old now new cs all place c low at more before =
+    flagging_chain chain old now new cs all place c low (slice_get-get_or cs place c low ∙ ap (λ x. Some x) (sym at)) more before
+
 -- the chain at a place
 pub counted_at : (cs : List Counted) (place : ℕ) → place < length cs → (c : Counted) × (slice_get cs place ≡ Some c)
 counted_at cs place low = let none : Counted = record { chain = []; count = 0 } in (get_or cs place none, slice_get-get_or cs place none low)

@@ -1,5 +1,5 @@
 -- What the answers of `cut` and `check` promise of every preprocessing.
-use Rattle.std.proofs.Common.{◌≡◌, ℕ, Bool, true, false, List, [], ◌∷◌, ◌++◌, Option, Some, None, Result, Ok, Err, inl, inr, refl, sym, ap, ◌∙◌, subst}
+use Rattle.std.proofs.Common.{◌≡◌, ◌≢◌, ℕ, Bool, true, false, List, [], ◌∷◌, ◌++◌, Option, Some, None, Result, Ok, Err, inl, inr, refl, sym, ap, ◌∙◌, subst}
 use Rattle.std.specs.Prelude.{not, IsTrue}
 use Rattle.std.specs.List.{list_all}
 use Rattle.inc_graph.specs.declared.building.Source.{Source}
@@ -72,6 +72,10 @@ never_without_source layout q i p is stated = stated (ap (λ (r : Printed). r.en
 never_without_header : (layout : Layout) (q : Question) (i : ℕ) (p : Printed) → p ≡ no_header layout q i → IsStated p → ⊥
 unfolding IsStated
 never_without_header layout q i p is stated = stated (ap (λ (r : Printed). r.end.kind) is)
+
+pub stated_other : (p : Printed) → p.end.kind ≢ Refused → IsStated p
+unfolding IsStated
+stated_other p other = other
 
 pub stated_yes : (p : Printed) → p.end.kind ≡ Answered → IsStated p
 unfolding IsStated

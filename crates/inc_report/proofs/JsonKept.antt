@@ -1,6 +1,6 @@
 -- Objects of JSON about a graph are the same for all who agree on what its directives are.
 use Rattle.std.proofs.Common.{◌≡◌, ◌∙◌, ℕ, ◌<◌, Bool, true, false, List, [], ◌∷◌, ◌++◌, Option, Some, None, ap, ap₂, codes, cond, get_or, length, map, refl, subst, sym}
-use Rattle.std.specs.Prelude.{bytes_eq, decimal, fold, option_map, slice_get}
+use Rattle.std.specs.Prelude.{bytes_eq, decimal, filter, fold, option_map, slice_get}
 use Rattle.std.specs.List.{All}
 use Rattle.std.specs.Option.{option_map_or}
 use Rattle.std.proofs.lemmas.List.Elements.{All-cons, All-head, All-nil, All-tail}
@@ -13,9 +13,12 @@ use Rattle.inc_graph.specs.IncludeGraph.{Edge, Graph}
 use Rattle.inc_graph.specs.MissingLists.{Missing}
 use Rattle.inc_graph.specs.Reaching.{Reaching}
 use Rattle.inc_graph.specs.declared.graphs.Blocker.{Blocker}
-use Rattle.inc_report.specs.JsonAnswers.{About, blocked_text, blocker_text, blockers_text, chain_if, chains_text, counted_item, counted_text, cut_json, edge_text, edges_text, file_member, fixed_json, found_text, from_text, front_text, graph_json, links_text, missing_item, missing_text, named_form, names_text, numbered_text, place_text, sets_ends, shortest_text, source_item, sources_text, status_text, to_text, who_json, why_ends, why_json}
+use Rattle.inc_report.specs.JsonAnswers.{About, blocked_text, blocker_text, blockers_text, chain_if, chains_text, counted_item, counted_text, cut_json, edge_text, edges_text, file_member, files_text, fixed_json, found_text, from_text, front_text, graph_json, links_text, missing_item, missing_text, named_form, names_text, numbered_text, place_text, sets_ends, shortest_text, source_item, sources_text, status_text, to_text, who_json, why_ends, why_json}
 use Rattle.inc_report.specs.JsonDirectives.{directive_text}
 use Rattle.inc_report.specs.JsonTexts.{bytes_member, list_of, number_member}
+use Rattle.inc_rules.specs.RuleTexts.{joined}
+use Rattle.inc_report.specs.RulesJson.{broken_item, broken_items, rules_json}
+use Rattle.inc_rules.specs.Judging.{Judged, is_broken}
 use Rattle.inc_report.specs.declared.outcome.EndKind.{EndKind}
 use Rattle.inc_report.specs.MissingNames.{MissingName, counted_once_more, first_named, missing_names, spelled, with_missing}
 
@@ -183,3 +186,21 @@ module _ (layout : Layout) (g : Graph) (k l : DirectiveId → LineKind) where
     fixed_same chain =
         ap (λ (text : List ℕ). codes "{\"chain\":" ++ text ++ codes ",\"command\":\"cut\",\"fixed\":true,\"format\":1," ++ from_text (by k) ++ codes ",\"status\":1,"
         ++ to_text (by k) ++ codes "}\n") (edges_same chain)
+
+    broken_same : (name : List ℕ) (j : Judged) → broken_item name (by k) j ≡ broken_item name (by l) j
+    broken_same name j =
+        ap (λ (chains : List ℕ). codes "{\"chains\":" ++ chains ++ codes ",\"files\":" ++ files_text (by k) j.files ++ codes ","
+        ++ number_member (codes "line") j.rule.line ++ codes "," ++ bytes_member (codes "path") name ++ codes ","
+        ++ bytes_member (codes "rule") (joined j.rule.words) ++ codes "}") (chains_same j.chains)
+
+    rules_ends : (kind : EndKind) (count : ℕ) → (blocked broken missing : List ℕ) → List ℕ
+    rules_ends kind count blocked broken missing =
+        codes "{\"blocked\":" ++ blocked ++ codes ",\"broken\":" ++ broken ++ codes ",\"command\":\"rules\",\"format\":1,\"missing\":"
+        ++ missing ++ codes "," ++ number_member (codes "rules") count ++ status_text kind ++ codes "}\n"
+
+    pub rules_object : (kind : EndKind) (name : List ℕ) (js : List Judged) → rules_json kind name (by k) js ≡ rules_json kind name (by l) js
+    unfolding rules_ends
+    rules_object kind name js =
+        ap₂ (λ (blocked broken : List ℕ). rules_ends kind (length js) blocked broken (missing_text (by k))) (blockers_same g.blockers same.blockers)
+        (ap list_of (each_same (broken_item name (by k)) (broken_item name (by l)) (filter is_broken js) (broken_same name)))
+        ∙ ap (rules_ends kind (length js) (blocked_text (by l)) (list_of (broken_items name (by l) js))) missing_same

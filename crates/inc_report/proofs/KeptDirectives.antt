@@ -15,9 +15,12 @@ use Rattle.inc_report.specs.CutDocument.{chain_blocks, chains_from, cut_document
 use Rattle.inc_report.specs.Documents.{AreGraphKept, AreKept, Block, IsKept, Led, Place, Words, edge_places, first_places, listed, more_blocks, places}
 use Rattle.inc_report.specs.GraphDocument.{graph_document, link_block}
 use Rattle.inc_report.specs.KeptFiles.{Kept, kept_at}
+use Rattle.inc_report.specs.RulesDocument.{broken_blocks, judged_blocks, lacking_blocks, rules_document, summary_words}
 use Rattle.inc_report.specs.WhoDocument.{in_blocks, led, reaching_blocks, reaching_by, source_blocks, who_document}
 use Rattle.inc_report.specs.WhyDocument.{blocker_blocks, blocker_if, blocker_ids, is_kind, is_same, last_of, missing_blocks, missing_id, other_blocks, other_lasts, reached_by, shortest_blocks, unresolved_blocks, way_blocks, why_document, whole_way}
 use Rattle.inc_graph.specs.declared.graphs.BlockerKind.TheVariants.{Computed, Foreign, Several}
+use Rattle.inc_rules.specs.Judging.{Judged, is_broken}
+use Rattle.inc_rules.specs.Rules.{Rule}
 use Rattle.inc_report.proofs.CutDirectives.{directives_all}
 
 module _ (kept : Kept) where
@@ -172,3 +175,32 @@ module _ (kept : Kept) where
     pub fixed_kept : (layout : Layout) (chain : List ℕ) → AreKept kept (fixed_document layout g chain)
     fixed_kept layout [] = words_first _ [] nothing
     fixed_kept layout (i ∷ is) = words_first _ (edge_places g (i ∷ is)) (edges_kept (i ∷ is))
+
+    ---- rules
+
+    lacking_kept : (layout : Layout) (r : Rule) (files : List ℕ) → AreKept kept (lacking_blocks layout r files)
+    lacking_kept layout r [] = nothing
+    lacking_kept layout r (f ∷ fs) = words_first _ (lacking_blocks layout r fs) (lacking_kept layout r fs)
+
+    each_kept : (chains : List (List ℕ)) → AreKept kept (flat_map (edge_places g) chains)
+    each_kept [] = nothing
+    each_kept (c ∷ cs) = both (edge_places g c) (flat_map (edge_places g) cs) (edges_kept c) (each_kept cs)
+
+    broken_kept : (name : List ℕ) (layout : Layout) (j : Judged) → AreKept kept (broken_blocks name layout g j)
+    broken_kept name layout j =
+        words_first _ (flat_map (edge_places g) j.chains ++ lacking_blocks layout j.rule j.files)
+        (both (flat_map (edge_places g) j.chains) (lacking_blocks layout j.rule j.files) (each_kept j.chains) (lacking_kept layout j.rule j.files))
+
+    judged_if : (b : Bool) (name : List ℕ) (layout : Layout) (j : Judged) → AreKept kept (cond b (broken_blocks name layout g j) [])
+    judged_if true name layout j = broken_kept name layout j
+    judged_if false name layout j = nothing
+
+    judged_kept : (name : List ℕ) (layout : Layout) (js : List Judged) → AreKept kept (flat_map (judged_blocks name layout g) js)
+    judged_kept name layout [] = nothing
+    judged_kept name layout (j ∷ js) =
+        both (judged_blocks name layout g j) (flat_map (judged_blocks name layout g) js) (judged_if (is_broken j) name layout j) (judged_kept name layout js)
+
+    pub rules_kept : (name : List ℕ) (layout : Layout) (js : List Judged) → AreKept kept (rules_document name layout g js)
+    rules_kept name layout js =
+        both (flat_map (judged_blocks name layout g) js) (Words (summary_words js) ∷ unresolved_blocks true g) (judged_kept name layout js)
+        (words_first _ (unresolved_blocks true g) (unresolved_kept true))

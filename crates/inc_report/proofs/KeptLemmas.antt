@@ -10,6 +10,7 @@ use Rattle.inc_lookup.specs.Given.{Given, Gave, Agrees, HoldsOfGiven}
 use Rattle.inc_lookup.specs.Projects.{Layout, Listing, layout_of, bytes_at}
 use Rattle.inc_report.specs.KeptFiles.{Kept, kept_at, Fits, keeps}
 use Rattle.inc_report.specs.declared.kept_sources.KeptSources.{KeptSources}
+use Rattle.inc_report.proofs.InnerSources as inner
 
 ---- the files that are kept
 
@@ -60,10 +61,6 @@ fits_set kept new listing g is fits agrees = λ i bytes there.
 ---- what was given is what was given to them
 
 module _ {S : Type 0} (gives : S → ℕ → Result (List ℕ) ReadFault → S → Type 0) where
-  pub gave_inner : (old new : KeptSources S) (given : List Given) → Gave (keeps gives) old given new → Gave gives old.sources given new.sources
-  gave_inner old new [] h = ap (λ (k : KeptSources S). k.sources) h
-  gave_inner old new (g ∷ gs) h = (h.0.sources, gave_inner old h.0 gs h.1, h.2.0)
-
   -- listings that agree with what was given fit what was kept
   pub fits_given : (old new : KeptSources S) (given : List Given) (listing : Listing) → Gave (keeps gives) old given new → Agrees given listing
       → Fits old.files listing → Fits new.files listing
@@ -111,11 +108,4 @@ module _ {S : Type 0} (gives : S → ℕ → Result (List ℕ) ReadFault → S �
   pub holds_inner : (old new : KeptSources S) (layout : Layout) (P Q : List Given → Listing → Type 0) → HoldsOfGiven (keeps gives) old new layout P
       → ((given : List Given) (listing : Listing) → Gave (keeps gives) old given new → layout_of listing ≡ layout → Agrees given listing → P given listing → Q given listing)
       → HoldsOfGiven gives old.sources new.sources layout Q
-  holds_inner old new layout P Q h then' = record {
-    given = h.given;
-    gave = gave_inner old new h.given h.gave;
-    witness = h.witness;
-    laid_out = h.laid_out;
-    agrees = h.agrees;
-    every = λ listing laid agrees. then' h.given listing h.gave laid agrees (h.every listing laid agrees);
-  }
+  holds_inner = inner.holds_inner gives (keeps gives) (λ (s : KeptSources S). s.sources) (λ old file bytes new h. h.0)

@@ -4,7 +4,7 @@ use Rattle.std.proofs.Common.{◌≡◌, ◌≢◌, ℕ, ◌<◌, ◌≤◌, Boo
 use Rattle.std.specs.Prelude.{◌⊎◌, ◌==◌, ◌&&◌, ◌||◌, slice_get, filter_map, flat_map, option_map, not, Contains, IfSome, IsTrue}
 use Rattle.std.specs.List.{cons_option, list_any}
 use Rattle.std.specs.Option.{option_map_or}
-use Rattle.std.proofs.lemmas.Bool.{cond-true, and_from, or_cases, or_left, or_right, or_parts, or_from, cases_Bool, cases_lt, both_ways, eq-eqb, eqb-true, ne_eqb, not_from_false, false≢true}
+use Rattle.std.proofs.lemmas.Bool.{cond-true, and_from, or_cases, or_left, or_right, or_parts, or_from, cases_Bool, cases_lt, both_ways, eq-eqb, eqb-true, ne_eqb, not_from_false, not-true, false≢true}
 use Rattle.std.proofs.lemmas.List.Elements.{Contains-append_cases, Contains-push_cases}
 use Rattle.std.proofs.lemmas.List.Folds.{list_any-append}
 use Rattle.inc_text.specs.PhaseText.{phase_text}
@@ -28,24 +28,28 @@ use Rattle.inc_graph.specs.declared.graphs.BlockerKind.TheVariants as kind
 use Rattle.inc_graph.specs.Settings.{Setting, layouts_of, listing_in}
 use Rattle.inc_graph.specs.declared.building.Source.{Source}
 use Rattle.inc_graph.specs.IncludeGraph.{Edge, Graph, Start, IsClosure, IsReached, Lead, Nowhere, Several, To, as_source, bad_file, blockers_from, directive_count, edges_from, entries_from, entry_blocker, entry_of, file_definitions, found_by, graph_directives, graph_of_files, graph_or_bad, inner_files, is_defined_in, leads, name_entry, text_definitions, undefined_place}
-use Rattle.inc_graph.specs.Chains.{is_walk, leaves, target}
+use Rattle.inc_graph.specs.Between.{between}
+use Rattle.inc_graph.specs.Chains.{is_chain, is_walk, leaves, target}
 use Rattle.inc_graph.specs.Members.{is_member}
 use Rattle.inc_graph.specs.Cuts.{Fixed, IsSeparating, directives_of, meets}
+use Rattle.inc_graph.proofs.BetweenWalks.{chain_between}
 use Rattle.inc_graph.proofs.ClosureLemmas.{reached_push, source_reached, start_at}
 use Rattle.inc_graph.proofs.SourceLemmas.{source_among}
 use Rattle.inc_graph.proofs.ClosureWalks.{contains_head, contains_none, some_contains, in_piece, kept, past_none, inner_file, inside_found, answer_is}
 use Rattle.inc_graph.proofs.LeadLemmas.{blocker_there, edge_there}
 use Rattle.inc_graph.proofs.LooplessWalks.{chain_of_walk}
-use Rattle.inc_graph.proofs.Walks.{walk_push}
+use Rattle.inc_graph.proofs.Walks.{chain_parts, walk_push}
 use Rattle.inc_cut.proofs.Links.{no_meeting}
 use Rattle.inc_macro.specs.Macros.{Definition, Table, is_defined, no_macros, with_words}
 use Rattle.inc_macro.proofs.UndefinedNames.{words_same}
 use Rattle.inc_macro.specs.Results.{◌>>=◌}
 use Rattle.inc_macro.specs.declared.faults.DefineFault.{DefineFault}
 use Rattle.inc_pp.specs.Files.{FileFault, lines_or_fault, tree_of_lines, tree_of}
+use Rattle.inc_pp.specs.Preprocessing.{Outcome, preprocessing}
+use Rattle.inc_pp.specs.Settings.{Settings}
 use Rattle.inc_pp.proofs.NamedIncludes.{BeginsWith}
 use Rattle.inc_report.specs.Headline.{DefineNone, NeverReadAny, NeverReads}
-use Rattle.inc_report.specs.KeptOut.{KeepsOut, CutKeepsHeadersOut, AnsweredCutKeepsHeadersOut}
+use Rattle.inc_report.specs.KeptOut.{KeepsOut, CutKeepsHeadersOut, AnsweredCutKeepsHeadersOut, NothingUnreachedIsRead, NothingIsReadWithoutChain}
 use Rattle.inc_report.proofs.KeptLines.{Each, contains_more, each_both, each_weaker, IsLineOf, Stays, LineStays, directive_at, tree_lines, tree_stays}
 use Rattle.inc_report.proofs.NamedLines.{any_there, begins_with, line_is_spelled, none_defined, none_once, place_there}
 use Rattle.inc_report.proofs.ReadWalks.{AreAbsent, IsNearRead, LeadsNear, near_reads}
@@ -358,29 +362,40 @@ module _ (setting : Setting) (listing : Listing) (sources : List Source) (header
         | inr high ↦ subst (λ ls. Each (LineLeads at) ls) (sym (no_lines setting.language listing cut at.file tree high is)) tt
       ]
 
-  module _ (header : ℕ) (ends : is_member header headers ≡ true) where
-    absent : (reads : List ℕ) → Each (IsNearRead IsApart Absent) reads → is_member header reads ≡ false
-    absent [] each = refl
-    absent (f ∷ fs) each = or_from (f == header) (is_member header fs) (ne_eqb f header (other f each.0)) (absent fs each.1)
-      where
-        other : (f : ℕ) → IsNearRead IsApart Absent f → f ≢ header
-        other f a same = both_ways (is_member header headers) (ap (λ (x : ℕ). is_member x headers) (sym same) ∙ not_end (record { file = f; next = a.0 }) a.1) ends
+  -- after the words no absent name is defined
+  words_define_none : (r : Result Table (ℕ × DefineFault)) → IfOk r (λ table. IsTrue (not (list_any (λ name. is_defined name table) setting.undefined)))
+      → IfOk r (λ table. table.aside ≡ λ name. []) → IfOk r (AreAbsent IsApart Absent)
+  words_define_none (Ok table) none aside = λ name absent.
+      none_defined setting.undefined name absent.0 table absent.1 none (ap (λ (a : List ℕ → List (Option Definition)). a name) aside)
+  words_define_none (Err fault) none aside = tt
 
-    -- after the words no absent name is defined
-    words_define_none : (r : Result Table (ℕ × DefineFault)) → IfOk r (λ table. IsTrue (not (list_any (λ name. is_defined name table) setting.undefined)))
-        → IfOk r (λ table. table.aside ≡ λ name. []) → IfOk r (AreAbsent IsApart Absent)
-    words_define_none (Ok table) none aside = λ name absent.
-        none_defined setting.undefined name absent.0 table absent.1 none (ap (λ (a : List ℕ → List (Option Definition)). a name) aside)
-    words_define_none (Err fault) none aside = tt
+  -- what is read is such a file
+  reads_apart : (words : List (List ℕ)) (settings : Settings) (outcome : Outcome) → settings.language ≡ setting.language → DefineNone setting.language words setting.undefined
+      → preprocessing (listing_in setting.others listing source.path) source.file words settings cut ≡ Ok outcome → Each (IsNearRead IsApart Absent) outcome.reads
+  reads_apart words settings outcome same none is =
+      near_reads IsApart Absent (listing_in setting.others listing source.path) source.file words settings cut outcome source_apart
+      (λ at a tree t. lines_lead at a tree (ap (λ (language : Language). tree_of language listing cut at.file) (sym same) ∙ t))
+      (words_define_none (with_words 0 words (no_macros settings.language))
+      (subst (λ (language : Language). DefineNone language words setting.undefined) (sym same) none) (words_same 0 words (no_macros settings.language))) is
 
-    keeps_out : NeverReads (listing_in setting.others listing source.path) setting.language setting.undefined source.file header cut
-    keeps_out words settings outcome same none is =
-        not_from_false (is_member header outcome.reads)
-        (absent outcome.reads
-        (near_reads IsApart Absent (listing_in setting.others listing source.path) source.file words settings cut outcome source_apart
-        (λ at a tree t. lines_lead at a tree (ap (λ (language : Language). tree_of language listing cut at.file) (sym same) ∙ t))
-        (words_define_none (with_words 0 words (no_macros settings.language))
-        (subst (λ (language : Language). DefineNone language words setting.undefined) (sym same) none) (words_same 0 words (no_macros settings.language))) is))
+  never_among : (file : ℕ) → ((at : Found) → IsApart at → at.file ≢ file) → (reads : List ℕ) → Each (IsNearRead IsApart Absent) reads → is_member file reads ≡ false
+  never_among file never [] each = refl
+  never_among file never (f ∷ fs) each =
+      or_from (f == file) (is_member file fs) (ne_eqb f file (never (record { file = f; next = each.0.0 }) each.0.1)) (never_among file never fs each.1)
+
+  never_reads : (file : ℕ) → ((at : Found) → IsApart at → at.file ≢ file) → NeverReads (listing_in setting.others listing source.path) setting.language setting.undefined source.file file cut
+  never_reads file never words settings outcome same none is =
+      not_from_false (is_member file outcome.reads) (never_among file never outcome.reads (reads_apart words settings outcome same none is))
+
+  keeps_out : (header : ℕ) → is_member header headers ≡ true → NeverReads (listing_in setting.others listing source.path) setting.language setting.undefined source.file header cut
+  keeps_out header ends =
+      never_reads header (λ at a same. both_ways (is_member header headers) (ap (λ (x : ℕ). is_member x headers) (sym same) ∙ not_end at a) ends)
+
+  -- nor is a file read to which no walk leads
+  unwalked_unread : (file : ℕ) → ((walk : List ℕ) → is_walk graph source.file walk file ≡ false)
+      → NeverReads (listing_in setting.others listing source.path) setting.language setting.undefined source.file file cut
+  unwalked_unread file never =
+      never_reads file (λ at a same. both_ways (is_walk graph source.file a.walk file) (never a.walk) (ap (is_walk graph source.file a.walk) (sym same) ∙ a.real))
 
 pub cut_keeps_headers_out : CutKeepsHeadersOut
 cut_keeps_headers_out setting listing sources headers starts closure good clear fixed set separates source header begins ends =
@@ -404,9 +419,43 @@ answered_cut_keeps_headers_out setting listing sources headers g answer clear fi
     (λ none met. cut_keeps_headers_out setting listing sources headers starts answer.1 (no_bad bads count h g answer.2) none fixed set met)
     clear separates
 
+---- what no walk reaches
+
+-- without headers there is no chain
+nothing_separates : (g : Graph) (fixed : Fixed) → g.headers ≡ [] → IsSeparating g fixed []
+nothing_separates g fixed none = record {
+  editable = refl;
+  once = refl;
+  met = λ chain is. let parts = chain_parts g chain is in absurd (false≢true (sym (ap (is_member parts.header) none) ∙ parts.ends));
+}
+
+pub nothing_unreached_is_read : NothingUnreachedIsRead
+nothing_unreached_is_read setting listing sources g answer clear source begins file never =
+    let starts : ℕ → List Start = answer.0 in
+    let files : List ℕ = inner_files listing starts [] in
+    let bads = filter_map (bad_file setting listing) files in
+    let h : Graph = graph_of_files setting listing sources [] starts files in
+    let count : ℕ = directive_count setting listing starts files in
+    let same : h ≡ g = answer_is bads count h g answer.2 in
+    subst (λ (x : Graph). x.blockers ≡ [] → ((walk : List ℕ) → IsTrue (not (is_walk x source.file walk file)))
+    → NeverReads (listing_in setting.others listing source.path) setting.language setting.undefined source.file file setting.removed) same
+    (λ none unwalked. unwalked_unread setting listing sources [] starts answer.1 (no_bad bads count h g answer.2) none (λ i. false) [] (nothing_separates h (λ i. false) refl) source begins file
+    (λ walk. not-true (is_walk h source.file walk file) (unwalked walk)))
+    clear never
+
+pub nothing_is_read_without_a_chain : NothingIsReadWithoutChain
+nothing_is_read_without_a_chain setting listing sources g answer clear from to none source begins among file ends =
+    nothing_unreached_is_read setting listing sources g answer clear source begins file
+    (λ walk. elim (cases_Bool (is_walk g source.file walk file)) [
+      | inl real ↦
+          let chain = chain_between g from to source.file file walk among ends real in
+          absurd (both_ways (is_chain (between from to g) chain.0) (not-true (is_chain (between from to g) chain.0) (none chain.0)) chain.1)
+      | inr other ↦ not_from_false (is_walk g source.file walk file) other
+    ])
+
 ---- names that are given more than once
 
-once_define_none : (language : Language) (words names : List (List ℕ)) → DefineNone language words names → DefineNone language words (each_once names)
+pub once_define_none : (language : Language) (words names : List (List ℕ)) → DefineNone language words names → DefineNone language words (each_once names)
 once_define_none language words names none = by (with_words 0 words (no_macros language)) none
   where
     by : (r : Result Table (ℕ × DefineFault)) → IfOk r (λ table. IsTrue (not (list_any (λ name. is_defined name table) names)))

@@ -17,6 +17,10 @@ pub mod PpLemmas
 pub mod PpSections
 pub mod RuleLemmas
 pub mod BrokenRules
+pub mod DrawnRules
+pub mod JsonRules
+pub mod RuleBlocks
+pub mod RulesKept
 pub mod NameOrder
 pub mod NameLemmas
 pub mod SourcePaths
@@ -31,6 +35,7 @@ pub mod NamedDirectives
 pub mod FitLemmas
 pub mod HeadlineLemmas
 mod ByteLemmas
+pub mod InnerSources
 pub mod KeptLemmas
 pub mod ChangeLemmas
 pub mod CutDirectives
@@ -52,3 +57,7 @@ pub mod DotLemmas
 pub mod FlagLemmas
 pub mod BoundLemmas
 pub mod LinkBlocks
+pub mod ReadFiles
+pub mod CostLines
+pub mod CostPlaces
+pub mod CostLemmas

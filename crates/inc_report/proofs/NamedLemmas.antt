@@ -1,5 +1,5 @@
 -- What is printed in which directives stand as they are written, by what was read and kept, and what that promises.
-use Rattle.std.proofs.Common.{◌≡◌, ◌≢◌, ◌⊎◌, ℕ, ◌<◌, Bool, true, false, ◌==◌, List, [], ◌∷◌, ◌++◌, Option, Some, None, Result, Ok, length, get_or, is_some, inl, inr, refl, sym, ap, ap₂, subst, ◌∙◌, arith}
+use Rattle.std.proofs.Common.{◌≡◌, ◌≢◌, ◌⊎◌, ℕ, ◌<◌, Bool, true, false, ◌==◌, List, [], ◌∷◌, ◌++◌, Option, Some, None, Result, Ok, cond, length, get_or, is_some, inl, inr, refl, sym, ap, ap₂, subst, ◌∙◌, arith}
 use Rattle.std.specs.Prelude.{map, option_and_then, replicate, IsTrue}
 use Rattle.std.specs.List.{All, list_any}
 use Rattle.std.proofs.lemmas.Bool.{eqb-false, or_parts}
@@ -30,13 +30,16 @@ use Rattle.inc_report.specs.JsonRefusals.{mark_items, refusal_json, refusal_obje
 use Rattle.inc_report.specs.KeptFiles.{Fits, Kept, OfKept, keeps, kept_at}
 use Rattle.inc_report.specs.Known.{IsKnown}
 use Rattle.inc_report.specs.NameTables.{NameSource}
-use Rattle.inc_report.specs.NamedHeadline.{HasGraph, NamedCutHeadline, NamedHeadline, NamedIsFixed, NamedKeepsHeadersOut}
+use Rattle.inc_report.specs.NamedHeadline.{HasGraph, NamedCutHeadline, NamedHeadline, NamedIsFixed, NamedKeepsHeadersOut, NamedRulesHeadline}
 use Rattle.inc_report.specs.NamedReasons.{named_reasons}
-use Rattle.inc_report.specs.NamedText.{IsHinderedKept, IsInAnyFormat, IsInFormat, IsNamedAs, IsNamedBy, IsNamedKept, IsNamedOf, IsOfLayout, IsReport, IsReportOf, IsStrictKept, IsStrictOf, about, answer_document, answer_json, answer_lines, answer_text, blocked_as, command_name, printed_answer, reason_in, refused_text}
+use Rattle.inc_report.specs.NamedText.{IsHinderedKept, IsInAnyFormat, IsInFormat, IsNamedAs, IsNamedBy, IsNamedKept, IsNamedOf, IsOfLayout, IsReport, IsReportOf, IsRuleReport, IsStrictKept, IsStrictOf, about, answer_document, answer_json, answer_lines, answer_text, blocked_as, command_name, printed_answer, reason_in, refused_text, rules_answer}
 use Rattle.inc_report.specs.Printed.{Printed, answered, end_of, reached_kind, refused_for}
 use Rattle.inc_report.specs.Questions.{Answer, IsAnswerBy}
 use Rattle.inc_report.specs.Refusals.{Blocked, NotFound, Refusal, refusal, refusal_for, refusal_text}
-use Rattle.inc_report.specs.Terms.{Question, Limits, named_directives, setting_in}
+use Rattle.inc_report.specs.RulesDocument.{rules_document}
+use Rattle.inc_report.specs.RulesText.{rules_kind}
+use Rattle.inc_report.specs.Terms.{Question, Details, Limits, RuleList, named_directives, setting_in}
+use Rattle.inc_rules.specs.Judging.{Judged, is_broken}
 use Rattle.inc_report.specs.Strictness.{Strict, asked_strays_of, not_found, open_strays_of, stray_reasons}
 use Rattle.inc_report.specs.Told as report
 use Rattle.inc_report.specs.Told.{Chains, Edges, FixedChain, IsAnswerOf, Removed, Sources, end_kind, notes_of}
@@ -55,13 +58,14 @@ use Rattle.inc_report.specs.declared.refusals.Refusal.TheVariants as refused
 use Rattle.inc_report.specs.declared.subjects.Subject.{Subject}
 use Rattle.inc_report.proofs.BlankLemmas.{all_kept}
 use Rattle.inc_report.proofs.CutLemmas.{unhindered}
-use Rattle.inc_report.proofs.HeadlineLemmas.{IsTold, told_of, stated_yes, stated_no, unhindered_all, unhindered_told, unless_told, ends_apart, answered_negative}
-use Rattle.inc_report.proofs.JsonKept.{AreSame, cut_same, fixed_same, graph_same, items_same, who_same, why_same}
-use Rattle.inc_report.proofs.KeptDirectives.{cut_kept, fixed_kept, links_kept, who_kept, why_kept}
+use Rattle.inc_report.proofs.HeadlineLemmas.{IsTold, told_of, stated_other, stated_yes, stated_no, unhindered_all, unhindered_told, unless_told, ends_apart, answered_negative}
+use Rattle.inc_report.proofs.JsonKept.{AreSame, cut_same, fixed_same, graph_same, items_same, rules_object, who_same, why_same}
+use Rattle.inc_report.proofs.KeptDirectives.{cut_kept, fixed_kept, links_kept, rules_kept, who_kept, why_kept}
 use Rattle.inc_report.proofs.KeptLemmas.{fits_given, fits_unread, holds_inner, kept_given}
 use Rattle.inc_report.proofs.KeptOut.{answered_cut_keeps_headers_out, of_names_once}
 use Rattle.inc_report.proofs.NamedReasonLemmas.{reasons_same}
 use Rattle.inc_report.proofs.QuestionLemmas.{answer_all}
+use Rattle.inc_report.proofs.RulesKept.{rules_promised}
 use Rattle.inc_report.proofs.StrictLemmas.{strays_all, unless_none, unless_some}
 use Rattle.inc_report.proofs.UnresolvedTexts.{blocker_in_text, missing_in_text}
 
@@ -171,6 +175,16 @@ module _ (language : Language) (kept : Kept) (layout : Layout) (listing : Listin
         by Json = object_same (end_kind form.fails answer) form.all answer
         by Dot = refl
 
+    rules_same : (format : Format) (name : List ℕ) (js : List Judged)
+        → rules_answer format name (kept_about language kept layout g) js ≡ rules_answer format name (about language listing layout g) js
+    rules_same Gcc name js = text_same (rules_document name layout g js) (rules_kept kept g held name layout js)
+    rules_same Json name js = rules_object layout g (kept_kind language kept) (kind_of language listing) all_same (rules_kind js) name js
+    rules_same Dot name js = refl
+
+    pub rules_told : (form : NamedForm) (l : RuleList) (p : Printed) → IsRuleReport form l (kept_about language kept layout g) p
+        → IsRuleReport form l (about language listing layout g) p
+    rules_told form l p r = (r.0, r.1, r.2 ∙ ap (λ (text : List ℕ). printed_as text (end_of [] (rules_kind r.0))) (rules_same form.format l.name r.0))
+
     -- what is printed by what is kept is printed of the listing
     pub report_same : (asked : Asked) (form : NamedForm) (costed : Bool) (amounts : List ℕ) (p : Printed) → IsReport asked form costed (kept_about language kept layout g) amounts p
         → IsReportOf asked form costed language listing layout g amounts p
@@ -178,6 +192,12 @@ module _ (language : Language) (kept : Kept) (layout : Layout) (listing : Listin
         (r.0, r.1, r.2 ∙ ap (λ (text : List ℕ). printed_as text (end_of (notes_of layout g r.0) (end_kind form.fails r.0))) (answer_same form costed amounts r.0))
 
 ---- formats
+
+negative_refused : Negative ≡ Refused → ⊥
+negative_refused same = cc
+
+answered_refused : Answered ≡ Refused → ⊥
+answered_refused same = cc
 
 -- an answer stays
 answer_format : (form : NamedForm) (q : Question) (layout : Layout) (kind : DirectiveId → LineKind) (p : Printed) → p.end.kind ≢ Refused → IsInFormat form q layout kind p p
@@ -283,9 +303,42 @@ module _ (form : NamedForm) (q : Question) (s : Subject) where
       ∙ ap (λ (l : List Blocker). named_reasons q.language q.undefined (kept_kind s.language s.files.now) s.project.now l) (sym are))
       (is ∙ ap (λ (l : List Blocker). refused_text form (kept_kind s.language s.files.now) (Blocked s.project.now l)) (sym are))
 
----- the answer of a graph
+---- what hinders a cut
 
 module _ (form : NamedForm) (q : Question) (l : Limits) (s : Subject) (held : AreGraphKept s.graph.now s.files.now) (p : Printed) where
+  by_blockers : (bs : List Blocker) (fault : Option Refusal) → bs ≢ [] → Unhindered s.project.now bs fault (λ r. ⊥) (blocked s.project.now bs)
+  by_blockers [] fault some = absurd (some refl)
+  by_blockers (b ∷ bs) fault some = refl
+
+  -- by blockers
+  pub by_all : s.graph.now.blockers ≢ [] → p ≡ blocked_as form q s → IsHinderedKept form q l s p
+  by_all some is = (
+    blocked s.project.now s.graph.now.blockers,
+    by_blockers s.graph.now.blockers (marks_refusal s.project.now s.graph.now l.fixed l.costs) some,
+    λ listing laid fits. inl (
+      blocked_reasons s.project.now s.graph.now.blockers,
+      Blocked s.project.now s.graph.now.blockers,
+      refl,
+      refl,
+      is ∙ blockers_same s.language s.files.now s.project.now listing fits s.graph.now held form q,
+    ),
+  )
+
+  by_marks : (bs : List Blocker) (fault : Option Refusal) (r : Refusal) → bs ≡ [] → fault ≡ Some r → Unhindered s.project.now bs fault (λ x. ⊥) (refusal r)
+  by_marks bs fault r none is = rw (none, is) refl
+
+  -- by a mark or a cost
+  pub by_mark : (fault : FixedFault) (r : declared.Refusal) → s.graph.now.blockers ≡ [] → marks_fault s.project.now s.graph.now l.fixed l.costs ≡ Some fault
+      → Some (seen_refusal r) ≡ refusal_of_fault l.fixed l.costs fault → IsInAnyFormat form (refusal (seen_refusal r)) p → IsHinderedKept form q l s p
+  by_mark fault r none named seen is = (
+    refusal (seen_refusal r),
+    by_marks s.graph.now.blockers (marks_refusal s.project.now s.graph.now l.fixed l.costs) (seen_refusal r) none (ap (option_and_then (refusal_of_fault l.fixed l.costs)) named ∙ sym seen),
+    λ listing laid fits. is q s.project.now (kind_of s.language listing),
+  )
+
+---- the answer of a graph
+
+module _ (form : NamedForm) (q : Question) (d : Details) (s : Subject) (held : AreGraphKept s.graph.now s.files.now) (p : Printed) where
   abbrev own : Layout
   own = s.project.now
 
@@ -303,10 +356,10 @@ module _ (form : NamedForm) (q : Question) (l : Limits) (s : Subject) (held : Ar
   stated (FixedChain chain) is same = cc
 
   abbrev Then : Asked → Listing → Type 0
-  Then asked listing = IsNamedAs asked form l s.language listing own s.graph.now p
+  Then asked listing = IsNamedAs asked form d s.language listing own s.graph.now p
 
   kept_as : (asked : Asked) (costed : Bool) (amounts : List ℕ) → form.asked ≡ asked → IsReport asked form costed (about_subject s) amounts p
-      → ((listing : Listing) → IsReportOf asked form costed s.language listing own s.graph.now amounts p → Then asked listing) → IsNamedKept form q l s p
+      → ((listing : Listing) → IsReportOf asked form costed s.language listing own s.graph.now amounts p → Then asked listing) → IsNamedKept form q d s p
   kept_as asked costed amounts is r step = (
     p,
     λ listing laid fits. (
@@ -315,64 +368,47 @@ module _ (form : NamedForm) (q : Question) (l : Limits) (s : Subject) (held : Ar
     ),
   )
 
-  pub why_report : form.asked ≡ ask.Why → IsReport ask.Why form false (about_subject s) [] p → IsNamedKept form q l s p
+  pub why_report : form.asked ≡ ask.Why → IsReport ask.Why form false (about_subject s) [] p → IsNamedKept form q d s p
   why_report is r = kept_as ask.Why false [] is r (λ listing h. h)
 
-  pub who_report : form.asked ≡ ask.Who → IsReport ask.Who form false (about_subject s) [] p → IsNamedKept form q l s p
+  pub who_report : form.asked ≡ ask.Who → IsReport ask.Who form false (about_subject s) [] p → IsNamedKept form q d s p
   who_report is r = kept_as ask.Who false [] is r (λ listing h. h)
 
-  pub graph_report : form.asked ≡ ask.Graph → IsReport ask.Graph form false (about_subject s) [] p → IsNamedKept form q l s p
+  pub graph_report : form.asked ≡ ask.Graph → IsReport ask.Graph form false (about_subject s) [] p → IsNamedKept form q d s p
   graph_report is r = kept_as ask.Graph false [] is r (λ listing h. h)
 
-  pub cut_report : (costed : Bool) (amounts : List ℕ) → form.asked ≡ ask.Cut → costed ≡ has_costs l.costs → s.graph.now.blockers ≡ [] → marks_fault own s.graph.now l.fixed l.costs ≡ None
-      → amounts ≡ amounts_by own s.graph.now l.kept l.fixed l.costs → IsReport ask.Cut form costed (about_subject s) amounts p → IsNamedKept form q l s p
+  stated_rules : (js : List Judged) (b : Bool) → list_any is_broken js ≡ b → p.end.kind ≡ rules_kind js → p.end.kind ≢ Refused
+  stated_rules js true some is same = absurd (negative_refused (sym (is ∙ ap (λ (x : Bool). cond x Negative Answered) some) ∙ same))
+  stated_rules js false none is same = absurd (answered_refused (sym (is ∙ ap (λ (x : Bool). cond x Negative Answered) none) ∙ same))
+
+  pub rule_report : form.asked ≡ ask.Rules → IsRuleReport form d.rules (about_subject s) p → IsNamedKept form q d s p
+  rule_report is r = (
+    p,
+    λ listing laid fits. (
+      subst (λ (a : Asked). Then a listing) (sym is) (rules_told s.language s.files.now own listing fits s.graph.now held form d.rules p r),
+      answer_format form q own (kind_of s.language listing) p (stated_rules r.0 (list_any is_broken r.0) refl (ap (λ (x : Printed). x.end.kind) r.2)),
+    ),
+  )
+
+  pub cut_report : (costed : Bool) (amounts : List ℕ) → form.asked ≡ ask.Cut → costed ≡ has_costs d.limits.costs → s.graph.now.blockers ≡ [] → marks_fault own s.graph.now d.limits.fixed d.limits.costs ≡ None
+      → amounts ≡ amounts_by own s.graph.now d.limits.kept d.limits.fixed d.limits.costs → IsReport ask.Cut form costed (about_subject s) amounts p → IsNamedKept form q d s p
   cut_report costed amounts is same none named fixed r =
       kept_as ask.Cut costed amounts is r
-      (λ listing h. unhindered (IsReportOf ask.Cut form (has_costs l.costs) s.language listing) own s.graph.now l amounts p none named fixed
+      (λ listing h. unhindered (IsReportOf ask.Cut form (has_costs d.limits.costs) s.language listing) own s.graph.now d.limits amounts p none named fixed
       (subst (λ (b : Bool). IsReportOf ask.Cut form b s.language listing own s.graph.now amounts p) same h))
 
   -- what hinders it
   abbrev Hindered : Printed → Type 0
-  Hindered x = Unhindered own s.graph.now.blockers (marks_refusal own s.graph.now l.fixed l.costs) (λ r. ⊥) x
+  Hindered x = Unhindered own s.graph.now.blockers (marks_refusal own s.graph.now d.limits.fixed d.limits.costs) (λ r. ⊥) x
 
-  hindered_as : (listing : Listing) (plain : Printed) → form.asked ≡ ask.Cut → Hindered plain → IsNamedOf form l s.language listing own s.graph.now plain
+  hindered_as : (listing : Listing) (plain : Printed) → form.asked ≡ ask.Cut → Hindered plain → IsNamedOf form d s.language listing own s.graph.now plain
   hindered_as listing plain is h =
-      subst (λ (a : Asked). IsNamedAs a form l s.language listing own s.graph.now plain) (sym is)
-      (unhindered_all own s.graph.now.blockers (marks_refusal own s.graph.now l.fixed l.costs) (λ r. ⊥)
-      (IsReportOf ask.Cut form (has_costs l.costs) s.language listing own s.graph.now (amounts_by own s.graph.now l.kept l.fixed l.costs)) plain (λ none. absurd none) h)
+      subst (λ (a : Asked). IsNamedAs a form d s.language listing own s.graph.now plain) (sym is)
+      (unhindered_all own s.graph.now.blockers (marks_refusal own s.graph.now d.limits.fixed d.limits.costs) (λ r. ⊥)
+      (IsReportOf ask.Cut form (has_costs d.limits.costs) s.language listing own s.graph.now (amounts_by own s.graph.now d.limits.kept d.limits.fixed d.limits.costs)) plain (λ none. absurd none) h)
 
-  pub hindered : form.asked ≡ ask.Cut → IsHinderedKept form q l s p → IsNamedKept form q l s p
+  pub hindered : form.asked ≡ ask.Cut → IsHinderedKept form q d.limits s p → IsNamedKept form q d s p
   hindered is h = (h.0, λ listing laid fits. (hindered_as listing h.0 is h.1, h.2 listing laid fits))
-
-  by_blockers : (bs : List Blocker) (fault : Option Refusal) → bs ≢ [] → Unhindered own bs fault (λ r. ⊥) (blocked own bs)
-  by_blockers [] fault some = absurd (some refl)
-  by_blockers (b ∷ bs) fault some = refl
-
-  -- by blockers
-  pub by_all : s.graph.now.blockers ≢ [] → p ≡ blocked_as form q s → IsHinderedKept form q l s p
-  by_all some is = (
-    blocked own s.graph.now.blockers,
-    by_blockers s.graph.now.blockers (marks_refusal own s.graph.now l.fixed l.costs) some,
-    λ listing laid fits. inl (
-      blocked_reasons own s.graph.now.blockers,
-      Blocked own s.graph.now.blockers,
-      refl,
-      refl,
-      is ∙ blockers_same s.language s.files.now own listing fits s.graph.now held form q,
-    ),
-  )
-
-  by_marks : (bs : List Blocker) (fault : Option Refusal) (r : Refusal) → bs ≡ [] → fault ≡ Some r → Unhindered own bs fault (λ x. ⊥) (refusal r)
-  by_marks bs fault r none is = rw (none, is) refl
-
-  -- by a mark or a cost
-  pub by_mark : (fault : FixedFault) (r : declared.Refusal) → s.graph.now.blockers ≡ [] → marks_fault own s.graph.now l.fixed l.costs ≡ Some fault
-      → Some (seen_refusal r) ≡ refusal_of_fault l.fixed l.costs fault → IsInAnyFormat form (refusal (seen_refusal r)) p → IsHinderedKept form q l s p
-  by_mark fault r none named seen is = (
-    refusal (seen_refusal r),
-    by_marks s.graph.now.blockers (marks_refusal own s.graph.now l.fixed l.costs) (seen_refusal r) none (ap (option_and_then (refusal_of_fault l.fixed l.costs)) named ∙ sym seen),
-    λ listing laid fits. is q own (kind_of s.language listing),
-  )
 
   ---- directives whose header is not found
 
@@ -380,34 +416,34 @@ module _ (form : NamedForm) (q : Question) (l : Limits) (s : Subject) (held : Ar
   strays = asked_strays_of form.asked q s.graph.now
 
   -- the answer, where all of them are excepted
-  pub strict_none : strays ≡ [] → IsNamedKept form q l s p → IsStrictKept form q l s p
+  pub strict_none : strays ≡ [] → IsNamedKept form q d s p → IsStrictKept form q d s p
   strict_none none is = (
     is.0,
     λ listing laid fits. (
-      unless_none own strays (IsNamedOf form l s.language listing own s.graph.now) is.0 none (is.1 listing laid fits).0,
+      unless_none own strays (IsNamedOf form d s.language listing own s.graph.now) is.0 none (is.1 listing laid fits).0,
       (is.1 listing laid fits).1,
     ),
   )
 
   -- their refusal
   strict_as : strays ≢ []
-      → ((listing : Listing) → Fits s.files.now listing → p ≡ refused_for (stray_reasons own strays) (refused_text form (kind_of s.language listing) (NotFound own strays))) → IsStrictKept form q l s p
+      → ((listing : Listing) → Fits s.files.now listing → p ≡ refused_for (stray_reasons own strays) (refused_text form (kind_of s.language listing) (NotFound own strays))) → IsStrictKept form q d s p
   strict_as some is = (
     not_found own strays,
     λ listing laid fits. (
-      unless_some own strays (IsNamedOf form l s.language listing own s.graph.now) (not_found own strays) some refl,
+      unless_some own strays (IsNamedOf form d s.language listing own s.graph.now) (not_found own strays) some refl,
       inl (stray_reasons own strays, NotFound own strays, refl, refl, is listing fits),
     ),
   )
 
   -- as text
-  pub strict_text : strays ≢ [] → form.format ≢ Json → p ≡ not_found own strays → IsStrictKept form q l s p
+  pub strict_text : strays ≢ [] → form.format ≢ Json → p ≡ not_found own strays → IsStrictKept form q d s p
   strict_text some format is =
       strict_as some (λ listing fits. is ∙ ap (refused_for (stray_reasons own strays)) (sym (as_text form (kind_of s.language listing) (NotFound own strays) format)))
 
   -- and as an object
   pub strict_object : strays ≢ [] → form.format ≡ Json
-      → p ≡ refused_for (stray_reasons own strays) (refusal_json (command_name form.asked) (kept_kind s.language s.files.now) (NotFound own strays)) → IsStrictKept form q l s p
+      → p ≡ refused_for (stray_reasons own strays) (refusal_json (command_name form.asked) (kept_kind s.language s.files.now) (NotFound own strays)) → IsStrictKept form q d s p
   strict_object some format is =
       strict_as some
       (λ listing fits. is ∙ ap (refused_for (stray_reasons own strays))
@@ -467,38 +503,38 @@ module _ {S : Type 0} (gives : S → ℕ → Result (List ℕ) ReadFault → S �
 
 ---- what is printed of a question
 
-module _ {S : Type 0} (gives : S → ℕ → Result (List ℕ) ReadFault → S → Type 0) (old new : KeptSources S) (layout : Layout) (form : NamedForm) (q : Question) (l : Limits) (p : Printed) where
+module _ {S : Type 0} (gives : S → ℕ → Result (List ℕ) ReadFault → S → Type 0) (old new : KeptSources S) (layout : Layout) (form : NamedForm) (q : Question) (d : Details) (p : Printed) where
   pub named_given : (plain : Printed) (graph : Graph) (n : ℕ) → old.files ≡ replicate n None
-      → OfKept new.files layout (λ listing. IsStrictOf form q l q.language listing layout graph plain × IsInFormat form q layout (kind_of q.language listing) plain p)
+      → OfKept new.files layout (λ listing. IsStrictOf form q d q.language listing layout graph plain × IsInFormat form q layout (kind_of q.language listing) plain p)
       → HoldsOfGiven (keeps gives) old new layout (IsAnswerBy (λ k g r. g ≡ graph) q plain)
-      → HoldsOfGiven gives old.sources new.sources layout (IsNamedBy form q l p)
+      → HoldsOfGiven gives old.sources new.sources layout (IsNamedBy form q d p)
   named_given plain graph n none told holds =
-      holds_inner gives old new layout (IsAnswerBy (λ k g r. g ≡ graph) q plain) (IsNamedBy form q l p) holds
+      holds_inner gives old new layout (IsAnswerBy (λ k g r. g ≡ graph) q plain) (IsNamedBy form q d p) holds
       (λ given listing gave laid agrees is.
       (let fits : Fits new.files listing = fits_given gives old new given listing gave agrees (fits_unread old.files n listing none) in
       let here = told listing laid fits in (
         plain,
         (
-          answer_all (λ k g r. g ≡ graph) (IsStrictOf form q l q.language listing) q listing plain
-              (λ g same. subst (λ (k : Layout). IsStrictOf form q l q.language listing k g plain) (sym laid) (subst (λ (h : Graph). IsStrictOf form q l q.language listing layout h plain) (sym same) here.0)) is.0,
+          answer_all (λ k g r. g ≡ graph) (IsStrictOf form q d q.language listing) q listing plain
+              (λ g same. subst (λ (k : Layout). IsStrictOf form q d q.language listing k g plain) (sym laid) (subst (λ (h : Graph). IsStrictOf form q d q.language listing layout h plain) (sym same) here.0)) is.0,
           is.1,
         ),
         subst (λ (k : Layout). IsInFormat form q k (kind_of q.language listing) plain p) (sym laid) here.1,
       )))
 
   pub named_refused : (plain : Printed) → IsInAnyFormat form plain p → HoldsOfGiven (keeps gives) old new layout (IsAnswerBy (λ k g r. ⊥) q plain)
-      → HoldsOfGiven gives old.sources new.sources layout (IsNamedBy form q l p)
+      → HoldsOfGiven gives old.sources new.sources layout (IsNamedBy form q d p)
   named_refused plain format holds =
-      holds_inner gives old new layout (IsAnswerBy (λ k g r. ⊥) q plain) (IsNamedBy form q l p) holds
+      holds_inner gives old new layout (IsAnswerBy (λ k g r. ⊥) q plain) (IsNamedBy form q d p) holds
       (λ given listing gave laid agrees is. (
         plain,
-        (answer_all (λ k g r. ⊥) (IsStrictOf form q l q.language listing) q listing plain (λ g none. absurd none) is.0, is.1),
+        (answer_all (λ k g r. ⊥) (IsStrictOf form q d q.language listing) q listing plain (λ g none. absurd none) is.0, is.1),
         format q (layout_of listing) (kind_of q.language listing),
       ))
 
 ---- what it promises
 
-module _ (form : NamedForm) (q : Question) (l : Limits) (p : Printed) (given : List Given) (listing : Listing) where
+module _ (form : NamedForm) (q : Question) (d : Details) (p : Printed) (given : List Given) (listing : Listing) where
   abbrev layout : Layout
   layout = layout_of listing
 
@@ -506,20 +542,20 @@ module _ (form : NamedForm) (q : Question) (l : Limits) (p : Printed) (given : L
   as_cut = record form { asked = ask.Cut }
 
   abbrev AsCut : Answer
-  AsCut = Strict (open_strays_of q) (IsNamedAs ask.Cut as_cut l q.language listing)
+  AsCut = Strict (open_strays_of q) (IsNamedAs ask.Cut as_cut d q.language listing)
 
   abbrev graph_told : {plain : Printed} → (t : IsTold AsCut q listing plain) → HasGraph q listing
   graph_told t = record { sources = t.sources; headers = t.headers; sources_are = t.sources_are; headers_are = t.headers_are; graph = t.graph; graph_is = t.graph_is }
 
   module _ (plain : Printed) (same : p ≡ plain) (t : IsTold AsCut q listing plain) where
     abbrev amounts : List ℕ
-    amounts = amounts_by layout t.graph l.kept l.fixed l.costs
+    amounts = amounts_by layout t.graph d.limits.kept d.limits.fixed d.limits.costs
 
     abbrev IsPrinted : report.Answer → Type 0
-    IsPrinted answer = plain ≡ printed_answer as_cut (has_costs l.costs) amounts (about q.language listing layout t.graph) answer
+    IsPrinted answer = plain ≡ printed_answer as_cut (has_costs d.limits.costs) amounts (about q.language listing layout t.graph) answer
 
     keeps_out : (answer : report.Answer) → p.end.kind ≡ Answered → t.graph.blockers ≡ [] → IsAnswerOf ask.Cut t.graph amounts answer → IsPrinted answer
-        → NamedKeepsHeadersOut as_cut q l listing p.text
+        → NamedKeepsHeadersOut as_cut q d.limits listing p.text
     keeps_out (Removed set chains) end none cut is = record {
       of = graph_told t;
       set = set;
@@ -534,44 +570,60 @@ module _ (form : NamedForm) (q : Question) (l : Limits) (p : Printed) (given : L
     keeps_out (Sources reaching chains) end none never is = absurd never
     keeps_out Edges end none never is = absurd never
 
-    is_fixed : (answer : report.Answer) → p.end.kind ≡ Negative → IsAnswerOf ask.Cut t.graph amounts answer → IsPrinted answer → NamedIsFixed as_cut q l listing p.text
+    is_fixed : (answer : report.Answer) → p.end.kind ≡ Negative → IsAnswerOf ask.Cut t.graph amounts answer → IsPrinted answer → NamedIsFixed as_cut q d.limits listing p.text
     is_fixed (FixedChain chain) end fixed is = record { of = graph_told t; chain = chain; is_fixed = fixed; printed = ap (λ (r : Printed). r.text) (same ∙ is) }
     is_fixed (Removed set chains) end cut is = absurd (ends_apart p Answered Negative (ap (λ (r : Printed). r.end.kind) (same ∙ is)) end answered_negative)
     is_fixed (Chains shortest chains) end never is = absurd never
     is_fixed (Sources reaching chains) end never is = absurd never
     is_fixed Edges end never is = absurd never
 
-  cut_headline : IsNamedBy as_cut q l p given listing → NamedCutHeadline as_cut q l p listing
+  cut_headline : IsNamedBy as_cut q d p given listing → NamedCutHeadline as_cut q d.limits p listing
   cut_headline is = record { cut = λ end. answered_of end; none = λ end. negative_of end }
     where
       kind_is : (kind : EndKind) → p.end.kind ≡ kind → kind ≢ Refused → p ≡ is.0
       kind_is kind end other = plain_format as_cut q layout (kind_of q.language listing) is.0 p (λ refused. other (sym end ∙ refused)) is.2
 
-      answered_of : p.end.kind ≡ Answered → NamedKeepsHeadersOut as_cut q l listing p.text
+      answered_of : p.end.kind ≡ Answered → NamedKeepsHeadersOut as_cut q d.limits listing p.text
       answered_of end =
           let same : p ≡ is.0 = kind_is Answered end (λ k. cc) in
           let at : is.0.end.kind ≡ Answered = sym (ap (λ (r : Printed). r.end.kind) same) ∙ end in
           let t = told_of AsCut q listing is.0 (stated_yes is.0 at) is.1.0 in
-          let u = unhindered_told layout t.graph.blockers (marks_refusal layout t.graph l.fixed l.costs)
-          (IsReportOf ask.Cut as_cut (has_costs l.costs) q.language listing layout t.graph (amounts_by layout t.graph l.kept l.fixed l.costs)) is.0 (stated_yes is.0 at)
-          (unless_told layout (open_strays_of q t.graph) (IsNamedAs ask.Cut as_cut l q.language listing layout t.graph) is.0 (stated_yes is.0 at) t.told) in
+          let u = unhindered_told layout t.graph.blockers (marks_refusal layout t.graph d.limits.fixed d.limits.costs)
+          (IsReportOf ask.Cut as_cut (has_costs d.limits.costs) q.language listing layout t.graph (amounts_by layout t.graph d.limits.kept d.limits.fixed d.limits.costs)) is.0 (stated_yes is.0 at)
+          (unless_told layout (open_strays_of q t.graph) (IsNamedAs ask.Cut as_cut d q.language listing layout t.graph) is.0 (stated_yes is.0 at) t.told) in
           keeps_out is.0 same t u.1.0 end u.0 u.1.1 u.1.2
 
-      negative_of : p.end.kind ≡ Negative → NamedIsFixed as_cut q l listing p.text
+      negative_of : p.end.kind ≡ Negative → NamedIsFixed as_cut q d.limits listing p.text
       negative_of end =
           let same : p ≡ is.0 = kind_is Negative end (λ k. cc) in
           let at : is.0.end.kind ≡ Negative = sym (ap (λ (r : Printed). r.end.kind) same) ∙ end in
           let t = told_of AsCut q listing is.0 (stated_no is.0 at) is.1.0 in
-          let u = unhindered_told layout t.graph.blockers (marks_refusal layout t.graph l.fixed l.costs)
-          (IsReportOf ask.Cut as_cut (has_costs l.costs) q.language listing layout t.graph (amounts_by layout t.graph l.kept l.fixed l.costs)) is.0 (stated_no is.0 at)
-          (unless_told layout (open_strays_of q t.graph) (IsNamedAs ask.Cut as_cut l q.language listing layout t.graph) is.0 (stated_no is.0 at) t.told) in
+          let u = unhindered_told layout t.graph.blockers (marks_refusal layout t.graph d.limits.fixed d.limits.costs)
+          (IsReportOf ask.Cut as_cut (has_costs d.limits.costs) q.language listing layout t.graph (amounts_by layout t.graph d.limits.kept d.limits.fixed d.limits.costs)) is.0 (stated_no is.0 at)
+          (unless_told layout (open_strays_of q t.graph) (IsNamedAs ask.Cut as_cut d q.language listing layout t.graph) is.0 (stated_no is.0 at) t.told) in
           is_fixed is.0 same t u.1.0 end u.1.1 u.1.2
 
-pub named_headline : (form : NamedForm) (q : Question) (l : Limits) (p : Printed) (given : List Given) (listing : Listing) → IsNamedBy form q l p given listing → NamedHeadline form q l p listing
-named_headline form q l p given listing is = by form.asked is
+module _ (form : NamedForm) (q : Question) (d : Details) (p : Printed) (given : List Given) (listing : Listing) where
+  abbrev as_rules : NamedForm
+  as_rules = record form { asked = ask.Rules }
+
+  -- what rules promise that are printed so
+  rules_promise : IsNamedBy as_rules q d p given listing → NamedRulesHeadline as_rules q d.rules p listing
+  rules_promise is none other =
+      let own : Layout = layout_of listing in
+      let same : p ≡ is.0 = plain_format as_rules q own (kind_of q.language listing) is.0 p other is.2 in
+      let stated = stated_other is.0 (subst (λ (x : Printed). x.end.kind ≢ Refused) same other) in
+      let t = told_of (IsStrictOf as_rules q d q.language listing) q listing is.0 stated is.1.0 in
+      let told = unless_told own (asked_strays_of ask.Rules q t.graph) (IsNamedAs ask.Rules as_rules d q.language listing own t.graph) is.0 stated t.told in
+      rules_promised q d.rules.rules listing (λ g js. p.text ≡ rules_answer form.format d.rules.name (about q.language listing own g) js) (IsStrictOf as_rules q d q.language listing) is.0 t none
+      told.0 told.1 (ap (λ (x : Printed). x.text) (same ∙ told.2))
+
+pub named_headline : (form : NamedForm) (q : Question) (d : Details) (p : Printed) (given : List Given) (listing : Listing) → IsNamedBy form q d p given listing → NamedHeadline form q d p listing
+named_headline form q d p given listing is = by form.asked is
   where
-    by : (a : Asked) → IsNamedBy (record form { asked = a }) q l p given listing → NamedHeadline (record form { asked = a }) q l p listing
+    by : (a : Asked) → IsNamedBy (record form { asked = a }) q d p given listing → NamedHeadline (record form { asked = a }) q d p listing
     by ask.Why given' = tt
     by ask.Who given' = tt
     by ask.Graph given' = tt
-    by ask.Cut given' = cut_headline form q l p given listing given'
+    by ask.Cut given' = cut_headline form q d p given listing given'
+    by ask.Rules given' = rules_promise form q d p given listing given'

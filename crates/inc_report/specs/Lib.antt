@@ -7,12 +7,15 @@ pub mod ChangeForms
 pub mod ChangeSteps
 pub mod Changes
 pub mod CheckText
+pub mod CostText
+pub mod CostViews
 pub mod CutDocument
 pub mod CutText
 pub mod DirectiveNames
 pub mod Documents
 pub mod DotText
 pub mod FaultReasons
+pub mod FileSizes
 pub mod Fitting
 pub mod GraphDocument
 pub mod GraphText
@@ -44,6 +47,10 @@ pub mod PpViews
 pub mod Printed
 pub mod Questions
 pub mod Refusals
+pub mod RuleViews
+pub mod RulesDocument
+pub mod RulesHeadline
+pub mod RulesJson
 pub mod RulesText
 pub mod ScanForms
 pub mod ScanText

@@ -8,11 +8,12 @@ use Rattle.inc_graph.specs.MarkedEdges.{amounts_by}
 use Rattle.inc_report.specs.CutDocument.{has_costs}
 use Rattle.inc_report.specs.Headline.{NeverReadAny}
 use Rattle.inc_report.specs.NamedFiles.{headers_at, sources_at}
-use Rattle.inc_report.specs.NamedText.{about, answer_text}
+use Rattle.inc_report.specs.NamedText.{about, answer_text, rules_answer}
 use Rattle.inc_report.specs.Printed.{Printed}
-use Rattle.inc_report.specs.Terms.{Question, Limits, named_directives, setting_in}
+use Rattle.inc_report.specs.RulesHeadline.{RulesHeadlineBy}
+use Rattle.inc_report.specs.Terms.{Question, Details, Limits, RuleList, named_directives, setting_in}
 use Rattle.inc_report.specs.Told.{Answer, Removed, FixedChain}
-use Rattle.inc_report.specs.declared.named.Asked.TheVariants.{Cut}
+use Rattle.inc_report.specs.declared.named.Asked.TheVariants.{Cut, Rules}
 use Rattle.inc_report.specs.declared.named.NamedForm.{NamedForm}
 use Rattle.inc_report.specs.declared.outcome.EndKind.TheVariants.{Answered, Negative}
 
@@ -60,6 +61,11 @@ pub record NamedCutHeadline (form : NamedForm) (q : Question) (l : Limits) (p : 
   pub cut : p.end.kind ≡ Answered → NamedKeepsHeadersOut form q l listing p.text
   pub none : p.end.kind ≡ Negative → NamedIsFixed form q l listing p.text
 
+-- the headline of rules
+abbrev pub NamedRulesHeadline : NamedForm → Question → RuleList → Printed → Listing → Type 0
+NamedRulesHeadline form q l p listing =
+    RulesHeadlineBy q l.rules listing (λ g js. p.text ≡ rules_answer form.format l.name (about q.language listing (layout_of listing) g) js) p
+
 -- what is promised by what is printed, in whatever format
-abbrev pub NamedHeadline : NamedForm → Question → Limits → Printed → Listing → Type 0
-NamedHeadline form q l p listing = elim form.asked [ Cut ↦ NamedCutHeadline form q l p listing | _ ↦ Unit {0} ]
+abbrev pub NamedHeadline : NamedForm → Question → Details → Printed → Listing → Type 0
+NamedHeadline form q d p listing = elim form.asked [ Cut ↦ NamedCutHeadline form q d.limits p listing | Rules ↦ NamedRulesHeadline form q d.rules p listing | _ ↦ Unit {0} ]

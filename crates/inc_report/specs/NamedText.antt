@@ -9,6 +9,7 @@ use Rattle.inc_lookup.specs.Projects.{Layout, Listing, layout_of}
 use Rattle.inc_directive.specs.LineKinds.{LineKind}
 use Rattle.inc_graph.specs.Cuts.{Counted}
 use Rattle.inc_graph.specs.IncludeGraph.{Graph}
+use Rattle.inc_rules.specs.Judging.{AreJudged, Judged}
 use Rattle.inc_report.specs.CutDocument.{cut_document, fixed_document, has_costs}
 use Rattle.inc_report.specs.CutText.{Unhindered, WithAmounts, marks_refusal}
 use Rattle.inc_report.specs.DirectiveNames.{kept_kind, kind_of, written}
@@ -23,8 +24,11 @@ use Rattle.inc_report.specs.Printed.{Printed, end_of, refused_for}
 use Rattle.inc_report.specs.Questions as questions
 use Rattle.inc_report.specs.Questions.{IsAnswerBy}
 use Rattle.inc_report.specs.Refusals.{Blocked, NotFound, Refusal, refusal_for, refusal_text}
+use Rattle.inc_report.specs.RulesDocument.{all_chains, rules_document}
+use Rattle.inc_report.specs.RulesJson.{rules_json}
+use Rattle.inc_report.specs.RulesText.{rules_kind}
 use Rattle.inc_report.specs.Strictness.{Strict, asked_strays_of}
-use Rattle.inc_report.specs.Terms.{Question, Limits}
+use Rattle.inc_report.specs.Terms.{Question, Details, Limits, RuleList}
 use Rattle.inc_report.specs.Told.{Answer, Chains, Sources, Edges, Removed, FixedChain, IsAnswerOf, end_kind, notes_of}
 use Rattle.inc_report.specs.WhoDocument.{who_document}
 use Rattle.inc_report.specs.WhyDocument.{why_document}
@@ -96,10 +100,12 @@ command_name Why = codes "why"
 command_name Who = codes "who"
 command_name ask.Graph = codes "graph"
 command_name Cut = codes "cut"
+command_name ask.Rules = codes "rules"
 
 -- whether it is about headers, too
 abbrev pub asks_headers : Asked → Bool
 asks_headers ask.Graph = false
+asks_headers ask.Rules = false
 asks_headers _ = true
 
 -- as a text, or as an object
@@ -138,22 +144,35 @@ IsReport asked form costed a amounts p = (answer : Answer) × IsAnswerOf asked a
 abbrev pub IsReportOf : Asked → NamedForm → (costed : Bool) → Language → Listing → Layout → Graph → (amounts : List ℕ) → Printed → Type 0
 IsReportOf asked form costed language listing layout g amounts p = IsReport asked form costed (about language listing layout g) amounts p
 
--- of a graph: amounts count of a cut alone
-abbrev pub IsNamedAs : Asked → NamedForm → Limits → Language → Listing → questions.Answer
-IsNamedAs Cut form l language listing layout g p = WithAmounts l (IsReportOf Cut form (has_costs l.costs) language listing) layout g p
-IsNamedAs asked form l language listing layout g p = IsReportOf asked form false language listing layout g [] p
+-- of rules, the edges of all their chains are drawn
+abbrev pub rules_answer : Format → (name : List ℕ) → About → List Judged → List ℕ
+rules_answer Gcc name a js = document_text (λ d. written (a.kind d)) a.layout (rules_document name a.layout a.graph js)
+rules_answer Json name a js = rules_json (rules_kind js) name a js
+rules_answer Dot name a js = dot_text a.layout a.graph (drawn (concat (all_chains js)) [] None)
 
-abbrev pub IsNamedOf : NamedForm → Limits → Language → Listing → questions.Answer
-IsNamedOf form l language listing = IsNamedAs form.asked form l language listing
+abbrev pub rules_report : NamedForm → (name : List ℕ) → About → List Judged → Printed
+rules_report form name a js = record { text = rules_answer form.format name a js; end = end_of [] (rules_kind js) }
+
+abbrev pub IsRuleReport : NamedForm → RuleList → About → Printed → Type 0
+IsRuleReport form l a p = (js : List Judged) × AreJudged a.layout a.graph l.rules js × (p ≡ rules_report form l.name a js)
+
+-- of a graph: limits and amounts count of a cut alone, and a list of rules where these are asked about
+abbrev pub IsNamedAs : Asked → NamedForm → Details → Language → Listing → questions.Answer
+IsNamedAs Cut form d language listing layout g p = WithAmounts d.limits (IsReportOf Cut form (has_costs d.limits.costs) language listing) layout g p
+IsNamedAs ask.Rules form d language listing layout g p = IsRuleReport form d.rules (about language listing layout g) p
+IsNamedAs asked form d language listing layout g p = IsReportOf asked form false language listing layout g [] p
+
+abbrev pub IsNamedOf : NamedForm → Details → Language → Listing → questions.Answer
+IsNamedOf form d language listing = IsNamedAs form.asked form d language listing
 
 -- or the refusal of directives whose header is not found
-abbrev pub IsStrictOf : NamedForm → Question → Limits → Language → Listing → questions.Answer
-IsStrictOf form q l language listing = Strict (asked_strays_of form.asked q) (IsNamedOf form l language listing)
+abbrev pub IsStrictOf : NamedForm → Question → Details → Language → Listing → questions.Answer
+IsStrictOf form q d language listing = Strict (asked_strays_of form.asked q) (IsNamedOf form d language listing)
 
 -- of a question, and which files are read for that
-abbrev pub IsNamedBy : NamedForm → Question → Limits → Printed → List Given → Listing → Type 0
-IsNamedBy form q l p given listing =
-    (plain : Printed) × IsAnswerBy (IsStrictOf form q l q.language listing) q plain given listing × IsInFormat form q (layout_of listing) (kind_of q.language listing) plain p
+abbrev pub IsNamedBy : NamedForm → Question → Details → Printed → List Given → Listing → Type 0
+IsNamedBy form q d p given listing =
+    (plain : Printed) × IsAnswerBy (IsStrictOf form q d q.language listing) q plain given listing × IsInFormat form q (layout_of listing) (kind_of q.language listing) plain p
 
 ---- by what is kept of the files
 
@@ -162,16 +181,16 @@ abbrev pub IsInAnyFormat : NamedForm → (plain : Printed) → Printed → Type 
 IsInAnyFormat form plain p = (q : Question) (layout : Layout) (kind : DirectiveId → LineKind) → IsInFormat form q layout kind plain p
 
 -- of a graph and the files that are kept of it
-abbrev pub IsNamedKept : NamedForm → Question → Limits → Subject → Printed → Type 0
-IsNamedKept form q l s p =
+abbrev pub IsNamedKept : NamedForm → Question → Details → Subject → Printed → Type 0
+IsNamedKept form q d s p =
     (plain : Printed) × OfKept s.files.now s.project.now (λ listing.
-    IsNamedOf form l s.language listing s.project.now s.graph.now plain × IsInFormat form q s.project.now (kind_of s.language listing) plain p)
+    IsNamedOf form d s.language listing s.project.now s.graph.now plain × IsInFormat form q s.project.now (kind_of s.language listing) plain p)
 
 -- the same of a question
-abbrev pub IsStrictKept : NamedForm → Question → Limits → Subject → Printed → Type 0
-IsStrictKept form q l s p =
+abbrev pub IsStrictKept : NamedForm → Question → Details → Subject → Printed → Type 0
+IsStrictKept form q d s p =
     (plain : Printed) × OfKept s.files.now s.project.now (λ listing.
-    IsStrictOf form q l s.language listing s.project.now s.graph.now plain × IsInFormat form q s.project.now (kind_of s.language listing) plain p)
+    IsStrictOf form q d s.language listing s.project.now s.graph.now plain × IsInFormat form q s.project.now (kind_of s.language listing) plain p)
 
 -- of what hinders a cut
 abbrev pub IsHinderedKept : NamedForm → Question → Limits → Subject → Printed → Type 0

@@ -1,11 +1,12 @@
 -- What is asked of a project.
-use Rattle.std.specs.Prelude.{ℕ, Bool, List, Option, filter_map, option_map}
+use Rattle.std.specs.Prelude.{ℕ, Bool, List, [], Option, filter_map, option_map}
 use Rattle.inc_text.specs.declared.languages.Language.{Language}
 use Rattle.inc_lookup.specs.declared.projects.DirectiveId.{DirectiveId}
 use Rattle.inc_lookup.specs.Projects.{Layout, SearchPath, place_of}
 use Rattle.inc_graph.specs.Marks.{Mark, Cost}
 use Rattle.inc_graph.specs.Settings.{Setting, setting_of, with_paths}
 use Rattle.inc_pp.specs.Settings.{Settings}
+use Rattle.inc_rules.specs.Rules.{Rule}
 
 -- a question about sources and headers, or about sources alone
 pub record Question : Type 0 where
@@ -37,6 +38,19 @@ pub record Limits : Type 0 where
   pub kept : List Bool
   -- what the others cost, 1 where none is given
   pub costs : List Cost
+
+-- rules, and what their list is called
+pub record RuleList : Type 0 where
+  pub name : List ℕ
+  pub rules : List Rule
+
+abbrev pub no_rules : RuleList
+no_rules = record { name = []; rules = [] }
+
+-- what an answer goes by beside its graph: what limits a cut, and the rules that are asked about
+pub record Details : Type 0 where
+  pub limits : Limits
+  pub rules : RuleList
 
 -- sources that are to be preprocessed
 pub record PpQuestion : Type 0 where

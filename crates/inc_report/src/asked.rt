@@ -1,7 +1,12 @@
 //! What is asked of a project.
+ghost use Rattle.std.specs.Prelude.{◌≡◌};
+ghost use Rattle.inc_report.specs.RuleViews.{seen_list};
+ghost use Rattle.inc_report.specs.Terms.{no_rules};
+
 use inc_graph::{Cost, Mark};
 use inc_lookup::IncludePath;
 use inc_pp::Settings;
+use inc_rules::Rule;
 use inc_text::Language;
 use std::marker::Model;
 
@@ -69,6 +74,43 @@ impl<'l> Model for Limits<'l> {
     ghost Value = { Limits };
 
     ghost view = { λ l. record { fixed = l.fixed.now; kept = l.kept.now; costs = l.costs.now } };
+}
+
+/// Rules, and what their list is called.
+#[derive(Clone, Copy, Drop)]
+pub struct RuleList<'r> {
+    pub name: &'r str,
+    pub rules: &'r [Rule<'r>],
+}
+
+impl<'r> RuleList<'r> {
+    /// No rules.
+    pub fn none() -> RuleList<'r>
+        ensures { seen_list result ≡ no_rules }
+    {
+        RuleList {
+            name: "",
+            rules: &[],
+        }
+    }
+}
+
+/// What an answer goes by beside its graph.
+#[derive(Drop)]
+pub struct Details<'d> {
+    /// What limits a cut.
+    pub limits: &'d Limits<'d>,
+    /// The rules that are asked about.
+    pub rules: RuleList<'d>,
+}
+
+impl<'d> Model for Details<'d> {
+    ghost use Rattle.inc_report.specs.RuleViews.{seen_list};
+    ghost use Rattle.inc_report.specs.Terms.{Details};
+
+    ghost Value = { Details };
+
+    ghost view = { λ d. record { limits = d.limits.now; rules = seen_list d.rules } };
 }
 
 /// Sources of a project that are to be preprocessed.

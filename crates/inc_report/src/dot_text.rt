@@ -1,11 +1,14 @@
 //! Answers as graphs that graphviz draws.
-ghost use Rattle.std.specs.Prelude.{◌≡◌, ◌<◌, ◌≤◌, ◌++◌, ◌∷◌, ℕ, List, [], None, Some, false, flat_map, length, option_map, slice_get, slice_index_or, IfOk, IfSome, OnOk};
+ghost use Rattle.std.specs.Prelude.{◌≡◌, ◌<◌, ◌≤◌, ◌++◌, ◌∷◌, ℕ, List, [], None, Some, false, flat_map, length, map, option_map, slice_get, slice_index_or, IfOk, IfSome, OnOk};
 ghost use Rattle.std.specs.List.{All, concat};
 ghost use Rattle.inc_graph.specs.Cuts as cuts;
 ghost use Rattle.inc_graph.specs.FileSets.{AreFlags};
 ghost use Rattle.inc_report.specs.DotText.{all_drawn, dot_byte, dot_path, dot_text, drawn, drawn_in, edge_line, ends_text, fixed_in, flagged, label_text, look};
 ghost use Rattle.inc_graph.specs.IncludeGraph as spec;
 ghost use Rattle.inc_graph.specs.Views.{seen_edge};
+ghost use Rattle.inc_report.specs.RulesDocument.{all_chains};
+ghost use Rattle.inc_rules.specs.Judging.{IsWithin};
+ghost use Rattle.inc_rules.specs.Views.{seen_judged};
 
 use crate::json_texts::put_hex_byte;
 use crate::missing_notes::put_number;
@@ -13,6 +16,7 @@ use crate::subjects::Subject;
 use inc_cut::CountedChains;
 use inc_graph::{Edge, EdgeId, Fixed, Graph, ShortestChains};
 use inc_lookup::Project;
+use inc_rules::Judged;
 use std::alloc::{AllocError, Global};
 
 /// Flags an edge.
@@ -43,6 +47,29 @@ fn flag_chains(flags: &mut [bool], chains: &mut ShortestChains<'_>)
 {
     while chains.advance() {
         flag_edges(flags, chains.edges());
+    }
+}
+
+/// Flags the edges of lists of them.
+fn flag_lists(flags: &mut [bool], lists: &[Vec<EdgeId>])
+    requires { All (λ c. All (λ i. i < length flags.old) c.items) lists.now }
+    ensures flags { (done : List ℕ) → AreFlags done flags.old → AreFlags (done ++ flat_map (λ c. c.items) lists.now) flags.new }
+    ensures long { length flags.new ≡ length flags.old }
+{
+    for edges in lists {
+        flag_edges(flags, edges);
+    }
+}
+
+/// Flags the edges of the chains that break rules.
+fn flag_judged(flags: &mut [bool], judged: &[Judged<'_>])
+    requires { All (λ j. All (λ c. All (λ i. i < length flags.old) c.items) j.chains.items) judged.now }
+    ensures flags { (done : List ℕ) → AreFlags done flags.old →
+        AreFlags (done ++ flat_map (λ j. flat_map (λ c. c.items) j.chains.items) judged.now) flags.new }
+    ensures long { length flags.new ≡ length flags.old }
+{
+    for rule in judged {
+        flag_lists(flags, &rule.chains);
     }
 }
 
@@ -140,6 +167,36 @@ pub(crate) fn chains_dot(
     let Subject { project, graph, .. } = subject;
     let edges = chain_flags(alloc, graph, chains)?;
     dot_text(alloc, project, graph, Some(&edges), &[], None)
+}
+
+/// Flags of the edges of the chains that break rules.
+fn judged_flags(
+    alloc: Global,
+    graph: &Graph,
+    judged: &[Judged<'_>],
+) -> Result<Vec<bool>, AllocError>
+    requires { All (λ j. IsWithin graph.now (seen_judged j)) judged.now }
+    ensures { IfOk result (λ flags. AreFlags (concat (all_chains (map seen_judged judged.now))) flags.items) }
+{
+    let mut flags = no_flags(alloc, graph)?;
+    flag_judged(&mut flags, judged);
+    Ok(flags)
+}
+
+/// The graph of the chains that break rules.
+pub(crate) fn rules_dot(
+    alloc: Global,
+    subject: Subject<'_>,
+    judged: &[Judged<'_>],
+) -> Result<Vec<u8>, AllocError>
+    requires files { subject.graph.now.files ≡ length subject.project.now.paths }
+    requires within { All (λ j. IsWithin subject.graph.now (seen_judged j)) judged.now }
+    ensures { IfOk result (λ text. text.items ≡ dot_text subject.entry.project.now subject.entry.graph.now
+        (drawn (concat (all_chains (map seen_judged judged.now))) [] None)) }
+{
+    let Subject { project, graph, .. } = subject;
+    let flags = judged_flags(alloc, graph, judged)?;
+    dot_text(alloc, project, graph, Some(&flags), &[], None)
 }
 
 /// The graph of a cut and of the chains that show that none is cheaper.

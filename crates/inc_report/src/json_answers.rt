@@ -119,7 +119,7 @@ fn put_sets(
 }
 
 /// The status of a call that ends so, under its key.
-fn status_text(kind: EndKind) -> &'static [u8]
+pub(crate) fn status_text(kind: EndKind) -> &'static [u8]
     ensures { result.now ≡ status_text kind }
 {
     match kind {

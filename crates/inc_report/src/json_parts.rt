@@ -86,14 +86,14 @@ impl<'s> JsonText<'s> {
     }
 
     /// Adds a member whose value is a number.
-    fn put_number_member(&mut self, key: &[u8], n: u64) -> Result<(), AllocError>
+    pub fn put_number_member(&mut self, key: &[u8], n: u64) -> Result<(), AllocError>
         ensures { OnOk result (self.new ≡ puts self.old (number_member key.now n)) }
     {
         put_number_member(&mut self.text, key, n)
     }
 
     /// Adds what stands before an item at a place: a comma, unless it is the first.
-    fn put_comma(&mut self, place: usize) -> Result<(), AllocError>
+    pub fn put_comma(&mut self, place: usize) -> Result<(), AllocError>
         ensures { OnOk result (self.new ≡ puts self.old (comma_at place)) }
     {
         let before: &[u8] = if place == 0 { b"" } else { b"," };
@@ -322,7 +322,7 @@ impl<'s> JsonText<'s> {
         let first = graph.missing().at(name.place);
         self.put_count(name.count, first.file, first.line)?;
         self.put(named_form(first.header.form))?;
-        self.put_name(first.header.name)?;
+        self.put_bytes_member(b"name", first.header.name)?;
         self.put(b"}")
     }
 
@@ -338,11 +338,24 @@ impl<'s> JsonText<'s> {
         self.put_place(directive, None)
     }
 
-    /// Adds a member that has the name of a header.
-    fn put_name(&mut self, name: &[u8]) -> Result<(), AllocError>
-        ensures { OnOk result (self.new ≡ puts self.old (bytes_member (codes "name") name.now)) }
+    /// Adds a member that has bytes.
+    pub fn put_bytes_member(&mut self, key: &[u8], bytes: &[u8]) -> Result<(), AllocError>
+        ensures { OnOk result (self.new ≡ puts self.old (bytes_member key.now bytes.now)) }
     {
-        put_bytes_member(&mut self.text, b"name", name)
+        put_bytes_member(&mut self.text, key, bytes)
+    }
+
+    /// Adds lists of edges, as a list.
+    pub fn put_edge_lists(&mut self, chains: &[Vec<EdgeId>]) -> Result<(), AllocError>
+        ensures { OnOk result (self.new ≡ puts self.old
+            (chains_text (about_of self.old) (map (λ c. c.items) chains.now))) }
+    {
+        self.put(b"[")?;
+        for place in 0..chains.len() {
+            self.put_comma(place)?;
+            self.put_edges(&chains[place])?;
+        }
+        self.put(b"]")
     }
 
     /// Adds each chain that is left, as a list.

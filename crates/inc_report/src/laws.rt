@@ -3,7 +3,7 @@ ghost use Rattle.std.specs.Prelude.{◌≡◌, ℕ, Bool, List, [], ◌∷◌, O
 ghost use Rattle.std.specs.Option.{option_map_or};
 ghost use Rattle.inc_lookup.specs.Projects.{Layout, Listing};
 ghost use Rattle.inc_report.specs.GraphText.{IsGraph};
-ghost use Rattle.inc_report.specs.KeptOut.{CutKeepsHeadersOut, AnsweredCutKeepsHeadersOut};
+ghost use Rattle.inc_report.specs.KeptOut.{CutKeepsHeadersOut, AnsweredCutKeepsHeadersOut, NothingUnreachedIsRead, NothingIsReadWithoutChain};
 ghost use Rattle.inc_report.specs.NamedFiles.{file_at, files_at};
 ghost use Rattle.inc_report.specs.Printed.{Printed};
 ghost use Rattle.inc_report.specs.Terms.{Question};
@@ -40,4 +40,12 @@ pub fn files_of_one_path()
 pub fn cuts_keep_the_headers_out()
     ensures files { CutKeepsHeadersOut }
     ensures answered { AnsweredCutKeepsHeadersOut }
+{}
+
+/// No preprocessing of a source, without the directives that the setting takes as removed, reads a file to which no walk of its graph
+/// leads from the source; nor one of some files, where the source is one of others from which no chain leads to these. This holds of
+/// each graph that is answered without headers and has no blocker.
+pub fn nothing_unreached_is_read()
+    ensures walks { NothingUnreachedIsRead }
+    ensures chains { NothingIsReadWithoutChain }
 {}

@@ -15,22 +15,25 @@ ghost use Rattle.inc_report.specs.Documents.{AreGraphKept, document_text};
 ghost use Rattle.inc_report.specs.JsonAnswers.{about_subject, why_json};
 ghost use Rattle.inc_report.specs.JsonRefusals.{mark_items, refusal_json, refusal_object};
 ghost use Rattle.inc_report.specs.NamedHeadline.{NamedHeadline};
-ghost use Rattle.inc_report.specs.NamedText.{IsHinderedKept, IsInAnyFormat, IsNamedBy, IsNamedKept, IsReport, IsStrictKept, answer_lines, answer_text, asks_headers, blocked_as, command_name};
+ghost use Rattle.inc_report.specs.NamedText.{IsHinderedKept, IsInAnyFormat, IsNamedBy, IsNamedKept, IsReport, IsRuleReport, IsStrictKept, answer_lines, answer_text, asks_headers, blocked_as, command_name, rules_answer};
 ghost use Rattle.inc_report.specs.Printed.{Printed, refused_for};
 ghost use Rattle.inc_report.specs.Questions.{FailsAt, IsStopped, IsWithin, unread_by};
 ghost use Rattle.inc_report.specs.Refusals.{NotFound, refusal_for};
 ghost use Rattle.inc_report.specs.Strictness.{asked_strays_of, stray_reasons};
 ghost use Rattle.inc_report.specs.Told.{Chains, Edges, FixedChain, Removed, Sources, chain_found, told_printed};
 ghost use Rattle.inc_report.specs.Views.{seen_refusal};
+ghost use Rattle.inc_report.specs.RuleViews.{seen_list};
+ghost use Rattle.inc_rules.specs.Judging.{IsWithin as IsJudgedWithin};
+ghost use Rattle.inc_rules.specs.Views.{seen_judged};
 ghost use Rattle.inc_report.specs.WhyText.{why_kind, why_notes};
 ghost use Rattle.inc_report.specs.Writing.{Prints, Writes, is_of_certificate, unread_of};
 
-use crate::asked::{Limits, Question};
+use crate::asked::{Details, Limits, Question, RuleList};
 use crate::cut::nearest_cut;
 use crate::cut_document::{ChainForm, cut_document, fixed_document};
 use crate::directive_names::NameTable;
 use crate::documents::Document;
-use crate::dot_text::{chains_dot, cut_dot, fixed_dot, graph_dot};
+use crate::dot_text::{chains_dot, cut_dot, fixed_dot, graph_dot, rules_dot};
 use crate::graph_document::graph_document;
 use crate::json_answers::{cut_json, fixed_json, graph_json, who_json, why_json};
 use crate::json_refusals::{blocked_json, refusal_json, strays_json};
@@ -42,6 +45,9 @@ use crate::outcome::{End, EndKind, RunFault, reached_kind};
 use crate::output::Output;
 use crate::questions::{NoGraph, find_graph, refusal_of_question};
 use crate::refusals::{Refusal, refuse_for};
+use crate::rules::rules_kind;
+use crate::rules_document::rules_document;
+use crate::rules_json::rules_json;
 use crate::strictness::{open_strays_of, refuse_strays, stray_reasons, strays_of};
 use crate::subjects::{Subject, Told};
 use crate::who::{kind_of, notes_of};
@@ -50,6 +56,7 @@ use crate::why_document::{reached_document, unreached_document};
 use inc_cut::{CountedChains, CutAnswer};
 use inc_graph::{Cost, EdgeId, Fixed, Graph, ShortestChains, SourceChains};
 use inc_lookup::{Project, Sources};
+use inc_rules::{Judged, judge};
 use inc_text::ByteSink;
 use std::alloc::{AllocError, Global};
 
@@ -64,6 +71,8 @@ pub enum Asked {
     Graph,
     /// Which directives to remove so that no header does, as [`run_cut`](crate::run_cut) tells it.
     Cut,
+    /// Which rules are broken, as [`run_rules`](crate::run_rules) prints it.
+    Rules,
 }
 
 impl Asked {
@@ -72,7 +81,7 @@ impl Asked {
         ensures { result ≡ asks_headers self }
     {
         match self {
-            Asked::Graph => false,
+            Asked::Graph | Asked::Rules => false,
             _ => true,
         }
     }
@@ -86,6 +95,7 @@ impl Asked {
             Asked::Who => b"who",
             Asked::Graph => b"graph",
             Asked::Cut => b"cut",
+            Asked::Rules => b"rules",
         }
     }
 }
@@ -116,7 +126,7 @@ pub struct NamedForm {
 
 /// Writes an answer in which a directive stands with its file, its line and how it is written: as a line for each, with lines between
 /// them that say what they are, or as an object of JSON. Chains that are shown whole go from a source to a header. Limits count of a cut
-/// alone.
+/// alone, and rules where these are asked about.
 ///
 /// The sources are given back with the sink. Each file is read once, as by [`run_why`](crate::run_why), and its bytes are kept until the
 /// call ends. All memory is taken before the first byte is written.
@@ -125,18 +135,18 @@ pub fn run_named<S: Sources, W: ByteSink>(
     project: &Project<'_>,
     sources: S,
     question: &Question<'_>,
-    limits: &Limits<'_>,
+    details: &Details<'_>,
     form: NamedForm,
     w: W,
 ) -> (Result<End, RunFault>, S, W)
     requires { W.has_failed w ≡ false }
     ensures written { Writes (λ p. HoldsOfGiven S.gives sources result.1 project.now
-        (IsNamedBy form question.now limits.now p))
+        (IsNamedBy form question.now details.now p))
         (W.written w) (W.written result.2) (W.has_failed result.2) result.0 }
     // What a cut promises, with the directives of it and those of `without` removed: no preprocessing of a source reads a header,
-    // and nothing cheaper separates.
+    // and nothing cheaper separates. And what rules that hold promise.
     ensures headline { Writes (λ p. HoldsOfGiven S.gives sources result.1 project.now
-        (λ _ listing. NamedHeadline form question.now limits.now p listing))
+        (λ _ listing. NamedHeadline form question.now details.now p listing))
         (W.written w) (W.written result.2) (W.has_failed result.2) result.0 }
     ensures unread { IfErr result.0 (λ fault. IfSome (unread_of fault)
         (FailsAt S.gives sources result.1 project.now question.now)) }
@@ -150,7 +160,7 @@ pub fn run_named<S: Sources, W: ByteSink>(
         Ok(kept) => kept,
         Err(sources) => return (Err(RunFault::NoMemory), sources, out.into_sink()),
     };
-    let ended = answer(alloc, project, &mut kept, question, limits, form, &mut out);
+    let ended = answer(alloc, project, &mut kept, question, details, form, &mut out);
     let (result, w) = out.finish(ended);
     (result, kept.into_sources(), w)
 }
@@ -161,13 +171,13 @@ fn answer<S: Sources, W: ByteSink>(
     project: &Project<'_>,
     kept: &mut KeptSources<S>,
     question: &Question<'_>,
-    limits: &Limits<'_>,
+    details: &Details<'_>,
     form: NamedForm,
     out: &mut Output<W>,
 ) -> Result<End, RunFault>
     requires { kept.old.files ≡ replicate (length project.now.paths) None }
     ensures sent { Prints (λ p. HoldsOfGiven S.gives kept.old.sources kept.new.sources project.now
-        (IsNamedBy form question.now limits.now p)) out.old out.new result }
+        (IsNamedBy form question.now details.now p)) out.old out.new result }
     ensures unread { IfErr result (λ fault. IfSome (unread_of fault)
         (FailsAt S.gives kept.old.sources kept.new.sources project.now question.now)) }
     ensures certificate { IfErr result (λ f. is_of_certificate f ≡ false) }
@@ -181,7 +191,7 @@ fn answer<S: Sources, W: ByteSink>(
                 files,
                 language: question.language,
             };
-            answer_strictly(alloc, subject, question, limits, form, out)
+            answer_strictly(alloc, subject, question, details, form, out)
         }
         Err(cause) => refuse(alloc, project, question, cause, form, out),
     }
@@ -245,20 +255,20 @@ fn answer_strictly<W: ByteSink>(
     alloc: Global,
     subject: Subject<'_>,
     question: &Question<'_>,
-    limits: &Limits<'_>,
+    details: &Details<'_>,
     form: NamedForm,
     out: &mut Output<W>,
 ) -> Result<End, RunFault>
     requires files { subject.graph.now.files ≡ length subject.project.now.paths }
     requires sound { IsSound subject.graph.now }
     requires kept { AreGraphKept subject.graph.now subject.files.now }
-    ensures sent { Prints (IsStrictKept form question.now limits.now subject.entry) out.old out.new result }
+    ensures sent { Prints (IsStrictKept form question.now details.now subject.entry) out.old out.new result }
     ensures read { IfErr result (λ f. unread_of f ≡ None) }
     ensures certificate { IfErr result (λ f. is_of_certificate f ≡ false) }
 {
     let strays = asked_strays_of(alloc, form.asked, question, subject.graph)?;
     if strays.is_empty() {
-        return answer_graph(alloc, subject, question, limits, form, out);
+        return answer_graph(alloc, subject, question, details, form, out);
     }
     match form.format {
         Format::Gcc | Format::Dot => {
@@ -311,14 +321,14 @@ fn answer_graph<W: ByteSink>(
     alloc: Global,
     subject: Subject<'_>,
     question: &Question<'_>,
-    limits: &Limits<'_>,
+    details: &Details<'_>,
     form: NamedForm,
     out: &mut Output<W>,
 ) -> Result<End, RunFault>
     requires files { subject.graph.now.files ≡ length subject.project.now.paths }
     requires sound { IsSound subject.graph.now }
     requires kept { AreGraphKept subject.graph.now subject.files.now }
-    ensures sent { Prints (IsNamedKept form question.now limits.now subject.entry) out.old out.new result }
+    ensures sent { Prints (IsNamedKept form question.now details.now subject.entry) out.old out.new result }
     ensures read { IfErr result (λ f. unread_of f ≡ None) }
     ensures certificate { IfErr result (λ f. is_of_certificate f ≡ false) }
 {
@@ -326,7 +336,8 @@ fn answer_graph<W: ByteSink>(
         Asked::Why => Ok(explain(alloc, subject, form)?.send(out)),
         Asked::Who => Ok(tell(alloc, subject, form)?.send(out)),
         Asked::Graph => Ok(list(alloc, subject, form)?.send(out)),
-        Asked::Cut => separate(alloc, subject, question, limits, form, out),
+        Asked::Cut => separate(alloc, subject, question, details, form, out),
+        Asked::Rules => Ok(rule(alloc, subject, details.rules, form)?.send(out)),
     }
 }
 
@@ -517,12 +528,52 @@ fn lines_of(alloc: Global, subject: Subject<'_>, document: &Document) -> Result<
     document.text(alloc, subject.project, subject.files, subject.language)
 }
 
+/// Which rules are broken.
+fn rule(
+    alloc: Global,
+    subject: Subject<'_>,
+    list: RuleList<'_>,
+    form: NamedForm,
+) -> Result<Told, AllocError>
+    requires { subject.graph.now.files ≡ length subject.project.now.paths }
+    ensures { IfOk result (λ report. IsRuleReport form (seen_list list.entry) (about_subject subject.entry) (told_printed report)) }
+{
+    let judged = judge(alloc, subject.project, subject.graph, list.rules)?;
+    Ok(Told {
+        text: rules_text(alloc, subject, list.name.as_bytes(), &judged, form.format)?,
+        kind: rules_kind(&judged),
+        notes: Notes::none(),
+    })
+}
+
+/// The text of rules of a list with this name.
+fn rules_text(
+    alloc: Global,
+    subject: Subject<'_>,
+    name: &[u8],
+    judged: &[Judged<'_>],
+    format: Format,
+) -> Result<Vec<u8>, AllocError>
+    requires files { subject.graph.now.files ≡ length subject.project.now.paths }
+    requires within { All (λ j. IsJudgedWithin subject.graph.now (seen_judged j)) judged.now }
+    ensures { IfOk result (λ text. text.items ≡ rules_answer format name.now (about_subject subject.entry) (map seen_judged judged.now)) }
+{
+    match format {
+        Format::Gcc => {
+            let document = rules_document(alloc, subject.project, subject.graph, name, judged)?;
+            lines_of(alloc, subject, &document)
+        }
+        Format::Json => rules_json(alloc, subject, rules_kind(judged), name, judged),
+        Format::Dot => rules_dot(alloc, subject, judged),
+    }
+}
+
 /// Sends the smallest cut of a graph, or what hinders it.
 fn separate<W: ByteSink>(
     alloc: Global,
     subject: Subject<'_>,
     question: &Question<'_>,
-    limits: &Limits<'_>,
+    details: &Details<'_>,
     form: NamedForm,
     out: &mut Output<W>,
 ) -> Result<End, RunFault>
@@ -530,11 +581,12 @@ fn separate<W: ByteSink>(
     requires files { subject.graph.now.files ≡ length subject.project.now.paths }
     requires sound { IsSound subject.graph.now }
     requires kept { AreGraphKept subject.graph.now subject.files.now }
-    ensures sent { Prints (IsNamedKept form question.now limits.now subject.entry) out.old out.new result }
+    ensures sent { Prints (IsNamedKept form question.now details.now subject.entry) out.old out.new result }
     ensures read { IfErr result (λ f. unread_of f ≡ None) }
     ensures certificate { IfErr result (λ f. is_of_certificate f ≡ false) }
 {
     let Subject { project, graph, .. } = subject;
+    let limits = details.limits;
     match amounts_of(alloc, project, graph, limits) {
         Ok(fixed) => {
             let costed = has_costs(limits.costs);

@@ -7,6 +7,7 @@ ghost use Rattle.inc_check.specs.Certificates.{marks_of};
 ghost use Rattle.inc_check.specs.Texts.{line_text};
 ghost use Rattle.inc_report.specs.MarkTexts.{chains_text, list_text};
 ghost use Rattle.inc_report.specs.Questions.{FailsAt};
+ghost use Rattle.inc_report.specs.RulesHeadline.{RulesHeadline};
 ghost use Rattle.inc_report.specs.RulesText.{broken_text, judged_text, lacking_text, rules_kind, IsRulesOf, IsRulesBy};
 ghost use Rattle.inc_report.specs.Sending.{Sends};
 ghost use Rattle.inc_report.specs.Strictness.{Strict, strays_of};
@@ -43,6 +44,10 @@ pub fn run_rules<'r, S: Sources, W: ByteSink>(
     requires { W.has_failed w ≡ false }
     ensures written { Writes (λ p. HoldsOfGiven S.gives sources.old sources.new project.now
         (IsRulesBy (map seen_rule rules.now) question.now p))
+        (W.written w) (W.written result.1) (W.has_failed result.1) result.0 }
+    // What rules that hold promise: no preprocessing of a source that a rule `must not reach` is about reads a file of its right side.
+    ensures headline { Writes (λ p. HoldsOfGiven S.gives sources.old sources.new project.now
+        (λ _ listing. RulesHeadline (map seen_rule rules.now) question.now p listing))
         (W.written w) (W.written result.1) (W.has_failed result.1) result.0 }
     ensures unread { IfErr result.0 (λ fault. IfSome (unread_of fault)
         (FailsAt S.gives sources.old sources.new project.now question.now)) }

@@ -15,6 +15,7 @@
 //! | `verdicts` | the same; certificates, each after a line `--` | what the checker says of each |
 //! | `fronts` | the lines of a certificate | of each of its fronts the line where it breaks off |
 //! | `costs` | amounts | whether a cost can have each |
+//! | `include costs` | `weight AMOUNT` for each file in turn, `group PATH` for the files of a group | what all sources weigh; what each directive and each file costs them, and how many of them; the four dearest files; what the group costs |
 //! | `marks`, `cost list` | a text | the marks, or the costs, that it is the text of, or the line that is malformed |
 //!
 //! Where the gate runs what the analyser and the preprocessor have to show: `calls`, `data`, `pp`, `cond` and `devices` are examples and tests of `crates/tests_..`, the others
@@ -67,6 +68,7 @@ mod cuts;
 mod edges;
 mod families;
 mod graphs;
+mod include_costs;
 mod lists;
 mod looking;
 mod searches;
@@ -74,6 +76,7 @@ mod searches;
 use crate::certificates::{add_costs, add_fronts};
 use crate::cuts::{Printed, add_asked};
 use crate::families::add_family;
+use crate::include_costs::add_include_costs;
 use crate::lists::{add_cost_list, add_marks};
 use std::alloc::Global;
 use std::process::ExitCode;
@@ -104,6 +107,7 @@ impl Answers for Calls {
             "verdicts" => add_asked(alloc, example, Printed::Verdicts, out),
             "fronts" => add_fronts(alloc, example, out),
             "costs" => add_costs(alloc, example, out),
+            "include costs" => add_include_costs(alloc, example, out),
             "marks" => add_marks(alloc, example, out),
             "cost list" => add_cost_list(alloc, example, out),
             _ => Err(Stop),

@@ -6,5 +6,6 @@ use Rattle.inc_args.proofs.commands.with_rule_words.Goals as goal
 pub returns : goal.returns
 returns c =
     let one = c.in_ok-arg.ensures.shape c.repeated_option.ensures.local ∙ ap (with_rule (app_of c.args.command)) c.repeated_option.ensures.rule in
-    let two = c.in_ok-arg-2.ensures.shape c.repeated.ensures.local ∙ ap₂ with_rule one c.repeated.ensures.rule in
-    IfOk-weaker c.arg-3.result _ _ (λ r h. h.shape c.optional_word.ensures.local ∙ ap₂ with_rule two c.optional_word.ensures.rule) c.arg-3.ensures
+    let two = c.in_ok-arg-2.ensures.shape c.option.ensures.local ∙ ap₂ with_rule one c.option.ensures.rule in
+    let three = c.in_ok-arg-3.ensures.shape c.repeated.ensures.local ∙ ap₂ with_rule two c.repeated.ensures.rule in
+    IfOk-weaker c.arg-4.result _ _ (λ r h. h.shape c.optional_word.ensures.local ∙ ap₂ with_rule three c.optional_word.ensures.rule) c.arg-4.ensures

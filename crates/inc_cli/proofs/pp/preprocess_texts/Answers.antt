@@ -10,7 +10,7 @@ use Rattle.inc_cli.specs.Preprocessings.{IsPreprocessed, PpAsked, PrintsEach, pp
 use Rattle.inc_inputs.specs.Reports.{Report, out_of_memory, report_of}
 use Rattle.inc_build.specs.declared.compiler_words.Kind.{Kind}
 use Rattle.inc_inputs.specs.ProjectLists.{paths_in}
-use Rattle.inc_inputs.specs.Texts.{listed_layout}
+use Rattle.inc_inputs.specs.ListNotes.{named_layout}
 use Rattle.inc_inputs.specs.Steps.{Step, comes_to}
 use Rattle.inc_cli.specs.Views.{output_of, seen_end}
 use Rattle.inc_inputs.specs.Views.{macro_of, pp_texts_in}
@@ -37,9 +37,9 @@ pub returns-in-Err : goal.returns-in-Err
 returns-in-Err g c not =
     let p = seen_pp c.args.args.now in
     let t = pp_texts_in c.args.texts.now in
-    let e : listed_layout (paths_in p.files t.list) (searched p t) ≡ Err (report_of c.in-Err.failure) = search rules in
+    let e : named_layout p.files (paths_in p.files t.list) (searched p t) ≡ Err (report_of c.in-Err.failure) = search rules in
     let keeps : Keeps (g.O.ByteSink.written c.args.out) (g.O.ByteSink.written c.args.out) = search rules in
-    run_came_err (listed_layout (paths_in p.files t.list) (searched p t)) (asked_with c.args.setup.now.language p (map macro_of c.args.macros.now) c.args.notes.items t) (IsPreprocessed g.I.Inputs.gives g.I.Inputs.puts p) _ _ _ _ e refl keeps
+    run_came_err (named_layout p.files (paths_in p.files t.list) (searched p t)) (asked_with c.args.setup.now.language p (map macro_of c.args.macros.now) c.args.notes.items t) (IsPreprocessed g.I.Inputs.gives g.I.Inputs.puts p) _ _ _ _ e refl keeps
 
 pub returns : goal.returns
 returns g c not =
@@ -50,10 +50,10 @@ returns g c not =
     let t = pp_texts_in c.args.texts.now in
     let macros = map macro_of c.args.macros.now in
     let notes = c.args.notes.items in
-    let layout = c.in-Ok-listed_project.project in
-    let e : listed_layout (paths_in p.files t.list) (searched p t) ≡ Ok layout = search rules in
+    let layout = c.in-Ok-named_project.project in
+    let e : named_layout p.files (paths_in p.files t.list) (searched p t) ≡ Ok layout = search rules in
     let out = output_of (g.O.ByteSink.written c.args.out) (g.O.ByteSink.written c.print_each-ended.result.1) (g.O.ByteSink.has_failed c.print_each-ended.result.1) in
     let told : seen_end c.end_of-told.result ≢ Err out_of_memory → seen_end c.end_of-told.result ≡ ended notes (paths_in p.files t.list) [] c.get-hindrance.result c.print_each-ended.result.0 = search rules in
-    run_came (listed_layout (paths_in p.files t.list) (searched p t)) (asked_with language p macros notes t) (IsPreprocessed gives puts p) _ _ _ layout e
+    run_came (named_layout p.files (paths_in p.files t.list) (searched p t)) (asked_with language p macros notes t) (IsPreprocessed gives puts p) _ _ _ layout e
     (run_here (pp_asked_for language p macros notes t layout) (IsPreprocessed gives puts p) _ _ _
     (made gives puts p _ (pp_asked_for language p macros notes t layout) _ _ _ out _ c.get-hindrance.result (seen_end c.end_of-told.result) _ (c.print_each-ended.ensures notes) (search rules) told not (c.write_beside.ensures not)))

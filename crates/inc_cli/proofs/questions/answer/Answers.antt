@@ -1,18 +1,23 @@
-use Rattle.std.proofs.Common.{map}
+use Rattle.std.proofs.Common.{map, subst}
 use Rattle.inc_rules.specs.Views.{seen_rule}
 use Rattle.inc_lookup.specs.Given.{HoldsOfGiven}
 use Rattle.inc_check.specs.Texts.{OfBytes}
 use Rattle.inc_report.specs.BlankHeadline.{BlankHeadline, PatchHeadline}
 use Rattle.inc_report.specs.BlankText.{IsBlankBy, IsPatchBy}
 use Rattle.inc_report.specs.CheckText.{IsCheckBy}
+use Rattle.inc_report.specs.CostText.{IsCostBy}
 use Rattle.inc_report.specs.CutText.{IsCutBy}
 use Rattle.inc_report.specs.GraphText.{IsGraphBy}
 use Rattle.inc_report.specs.Headline.{CheckHeadline, CutHeadline}
 use Rattle.inc_report.specs.NamedHeadline.{NamedHeadline}
 use Rattle.inc_report.specs.NamedText.{IsNamedBy}
+use Rattle.inc_report.specs.RuleViews.{seen_list}
 use Rattle.inc_report.specs.RulesText.{IsRulesBy}
+use Rattle.inc_report.specs.Terms.{Details, RuleList, no_rules}
 use Rattle.inc_report.specs.WhoText.{IsWhoBy}
 use Rattle.inc_report.specs.WhyText.{IsWhyBy}
+use Rattle.inc_report.specs.declared.named.NamedForm.{NamedForm}
+use Rattle.inc_cli.specs.Commands.{rules_form}
 use Rattle.inc_cli.specs.Questions.{Content, Promise}
 use Rattle.inc_cli.proofs.ListedPrints.{of_bytes_all}
 use Rattle.inc_cli.proofs.ListedReadings.{holds, prints, reading}
@@ -74,25 +79,49 @@ returns-in-Graph-clause-printed g c Promise notes =
     rw c.in-Graph.is (prints gives old new layout q (λ p. HoldsOfGiven (reading gives) old new layout (IsGraphBy q p)) _ _ _
     (λ p h. tt) c.run_graph.ensures.written c.run_graph.ensures.unread)
 
+pub returns-in-None-clause-printed : goal.returns-in-None-clause-printed
+returns-in-None-clause-printed g c Content notes =
+    let gives = g.I.Inputs.gives in
+    let old = c.args.files in
+    let new = c.run_rules.new.sources in
+    let layout = c.args.project.now in
+    let q = c.args.question.now in
+    let rules = map seen_rule c.in-Rules.rules.rules.now in
+    rw (c.in-Rules.is, c.in-None.is) (prints gives old new layout q (λ p. HoldsOfGiven (reading gives) old new layout (IsRulesBy rules q p)) _ _ _
+    (λ p h. holds gives old new layout (IsRulesBy rules q p) h) c.run_rules.ensures.written c.run_rules.ensures.unread)
+returns-in-None-clause-printed g c Promise notes =
+    let gives = g.I.Inputs.gives in
+    let old = c.args.files in
+    let new = c.run_rules.new.sources in
+    let layout = c.args.project.now in
+    let q = c.args.question.now in
+    let rules = map seen_rule c.in-Rules.rules.rules.now in
+    rw c.in-Rules.is (prints gives old new layout q (λ p. HoldsOfGiven (reading gives) old new layout (IsRulesBy rules q p)) _ _ _
+    (λ p h. tt) c.run_rules.ensures.written c.run_rules.ensures.unread)
+
 pub returns-in-Rules-clause-printed : goal.returns-in-Rules-clause-printed
 returns-in-Rules-clause-printed g c Content notes =
     let gives = g.I.Inputs.gives in
     let old = c.args.files in
-    let new = c.run_rules.new.sources in
+    let new = c.run_named-ended-in-Some.result.1 in
     let layout = c.args.project.now in
     let q = c.args.question.now in
-    let rules = map seen_rule c.in-Rules.rules.now in
-    rw c.in-Rules.is (prints gives old new layout q (λ p. HoldsOfGiven (reading gives) old new layout (IsRulesBy rules q p)) _ _ _
-    (λ p h. holds gives old new layout (IsRulesBy rules q p) h) c.run_rules.ensures.written c.run_rules.ensures.unread)
+    let d : Details = record { limits = c.args.limits.now; rules = seen_list c.in-Rules.rules } in
+    let form = c.rules_form-form.result in
+    rw (c.in-Rules.is, c.in-Some.is) (prints gives old new layout q (λ p. HoldsOfGiven (reading gives) old new layout (IsNamedBy form q d p)) _ _ _
+    (λ p h. holds gives old new layout (IsNamedBy (rules_form c.in-Some.format) q d p)
+    (subst (λ (f : NamedForm). HoldsOfGiven (reading gives) old new layout (IsNamedBy f q d p)) c.rules_form-form.ensures h))
+    c.run_named-ended-in-Some.ensures.written c.run_named-ended-in-Some.ensures.unread)
 returns-in-Rules-clause-printed g c Promise notes =
     let gives = g.I.Inputs.gives in
     let old = c.args.files in
-    let new = c.run_rules.new.sources in
+    let new = c.run_named-ended-in-Some.result.1 in
     let layout = c.args.project.now in
     let q = c.args.question.now in
-    let rules = map seen_rule c.in-Rules.rules.now in
-    rw c.in-Rules.is (prints gives old new layout q (λ p. HoldsOfGiven (reading gives) old new layout (IsRulesBy rules q p)) _ _ _
-    (λ p h. tt) c.run_rules.ensures.written c.run_rules.ensures.unread)
+    let d : Details = record { limits = c.args.limits.now; rules = seen_list c.in-Rules.rules } in
+    let form = c.rules_form-form.result in
+    rw c.in-Rules.is (prints gives old new layout q (λ p. HoldsOfGiven (reading gives) old new layout (IsNamedBy form q d p)) _ _ _
+    (λ p h. tt) c.run_named-ended-in-Some.ensures.written c.run_named-ended-in-Some.ensures.unread)
 
 pub returns-in-Cut-clause-printed : goal.returns-in-Cut-clause-printed
 returns-in-Cut-clause-printed g c Content notes =
@@ -163,8 +192,11 @@ returns-in-Named-clause-printed g c Content notes =
     let q = c.args.question.now in
     let l = c.args.limits.now in
     let form = c.in-Named.form in
-    rw c.in-Named.is (prints gives old new layout q (λ p. HoldsOfGiven (reading gives) old new layout (IsNamedBy form q l p)) _ _ _
-    (λ p h. holds gives old new layout (IsNamedBy form q l p) h) c.run_named-ended.ensures.written c.run_named-ended.ensures.unread)
+    let d : Details = record { limits = l; rules = seen_list c.none-rules.result } in
+    rw c.in-Named.is (prints gives old new layout q (λ p. HoldsOfGiven (reading gives) old new layout (IsNamedBy form q d p)) _ _ _
+    (λ p h. holds gives old new layout (IsNamedBy form q (record { limits = l; rules = no_rules }) p)
+    (subst (λ (r : RuleList). HoldsOfGiven (reading gives) old new layout (IsNamedBy form q (record { limits = l; rules = r }) p)) c.none-rules.ensures h))
+    c.run_named-ended.ensures.written c.run_named-ended.ensures.unread)
 returns-in-Named-clause-printed g c Promise notes =
     let gives = g.I.Inputs.gives in
     let old = c.args.files in
@@ -173,8 +205,31 @@ returns-in-Named-clause-printed g c Promise notes =
     let q = c.args.question.now in
     let l = c.args.limits.now in
     let form = c.in-Named.form in
-    rw c.in-Named.is (prints gives old new layout q (λ p. HoldsOfGiven (reading gives) old new layout (λ _ listing. NamedHeadline form q l p listing)) _ _ _
-    (λ p h. holds gives old new layout (λ _ listing. NamedHeadline form q l p listing) h) c.run_named-ended.ensures.headline c.run_named-ended.ensures.unread)
+    let d : Details = record { limits = l; rules = seen_list c.none-rules.result } in
+    rw c.in-Named.is (prints gives old new layout q (λ p. HoldsOfGiven (reading gives) old new layout (λ _ listing. NamedHeadline form q d p listing)) _ _ _
+    (λ p h. holds gives old new layout (λ _ listing. NamedHeadline form q (record { limits = l; rules = no_rules }) p listing)
+    (subst (λ (r : RuleList). HoldsOfGiven (reading gives) old new layout (λ _ listing. NamedHeadline form q (record { limits = l; rules = r }) p listing)) c.none-rules.ensures h))
+    c.run_named-ended.ensures.headline c.run_named-ended.ensures.unread)
+
+pub returns-in-Cost-clause-printed : goal.returns-in-Cost-clause-printed
+returns-in-Cost-clause-printed g c Content notes =
+    let gives = g.I.Inputs.gives in
+    let old = c.args.files in
+    let new = c.run_cost-ended.result.1 in
+    let layout = c.args.project.now in
+    let q = c.args.question.now in
+    let top = c.in-Cost.top in
+    rw c.in-Cost.is (prints gives old new layout q (λ p. HoldsOfGiven (reading gives) old new layout (IsCostBy top q p)) _ _ _
+    (λ p h. holds gives old new layout (IsCostBy top q p) h) c.run_cost-ended.ensures.written c.run_cost-ended.ensures.unread)
+returns-in-Cost-clause-printed g c Promise notes =
+    let gives = g.I.Inputs.gives in
+    let old = c.args.files in
+    let new = c.run_cost-ended.result.1 in
+    let layout = c.args.project.now in
+    let q = c.args.question.now in
+    let top = c.in-Cost.top in
+    rw c.in-Cost.is (prints gives old new layout q (λ p. HoldsOfGiven (reading gives) old new layout (IsCostBy top q p)) _ _ _
+    (λ p h. tt) c.run_cost-ended.ensures.written c.run_cost-ended.ensures.unread)
 
 pub returns-in-Ok-clause-printed : goal.returns-in-Ok-clause-printed
 returns-in-Ok-clause-printed g c Content notes =

@@ -19,7 +19,7 @@ returns-in-Ok g c known not =
     let P = IsAnswered g.I.Inputs.gives (IsKnown known g.I.Inputs.gives (record { opens = g.I.Inputs.opens; left = g.I.Stream.ByteSource.left }) command) command in
     let out = output_of (g.O.ByteSink.written c.args.out) (g.O.ByteSink.written c.ask_texts.result.1) (g.O.ByteSink.has_failed c.ask_texts.result.1) in
     let t = c.in-Ok.texts in
-    let read : texts_with c.deref.result.now t.fixed.items t.without.items c.deref-in-Ok.result.now ≡ texts_in t = search rules in
+    let read : texts_with c.deref.result.now t.fixed.items t.without.items c.deref-in-Ok.result.now t.firsts ≡ texts_in t = search rules in
     subst (λ t. IsRun (next_of next (seen_texts t)) P c.args.inputs out (seen_end c.ask_texts.result.0)) (sym c.in-Ok.is)
     (subst (λ t. IsRun (next t) P c.args.inputs out (seen_end c.ask_texts.result.0)) read (c.ask_texts.ensures known not))
 

@@ -16,7 +16,7 @@ returns-in-Ok g c not =
     let gives = g.I.Inputs.gives in
     let w = seen_rules c.args.words.now in
     let name = rule_name w in
-    let P = IsRuledBy gives (record { opens = g.I.Inputs.opens; left = g.I.Stream.ByteSource.left }) c.args.setup.now.language (seen_question c.args.question.now) (seen_limits c.args.limits.now) name in
+    let P = IsRuledBy gives (record { opens = g.I.Inputs.opens; left = g.I.Stream.ByteSource.left }) c.args.setup.now.language (seen_question c.args.question.now) (seen_limits c.args.limits.now) name c.args.format in
     let out = output_of (g.O.ByteSink.written c.args.out) (g.O.ByteSink.written c.ask_rules_of.result.1) (g.O.ByteSink.has_failed c.ask_rules_of.result.1) in
     let read : seen_text c.read_rule_text.result ≡ Ok c.in-Ok.text.items = ap seen_text c.in-Ok.is in
     run_then (rule_text gives w) (λ text. judged (AreRules name text)) P c.args.inputs c.read_rule_text.new.inputs out (seen_end c.ask_rules_of.result.0)

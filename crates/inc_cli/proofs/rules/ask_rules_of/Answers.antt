@@ -13,7 +13,7 @@ use Rattle.inc_cli.proofs.rules.ask_rules_of.Goals as goal
 pub returns-in-Ok : goal.returns-in-Ok
 returns-in-Ok g c not =
     let gives = g.I.Inputs.gives in
-    let P = IsRuledBy gives (record { opens = g.I.Inputs.opens; left = g.I.Stream.ByteSource.left }) c.args.setup.now.language (seen_question c.args.question.now) (seen_limits c.args.limits.now) c.args.name.now in
+    let P = IsRuledBy gives (record { opens = g.I.Inputs.opens; left = g.I.Stream.ByteSource.left }) c.args.setup.now.language (seen_question c.args.question.now) (seen_limits c.args.limits.now) c.args.name.now c.args.format in
     let out = output_of (g.O.ByteSink.written c.args.out) (g.O.ByteSink.written c.ask.result.1) (g.O.ByteSink.has_failed c.ask.result.1) in
     run_told (AreRules c.args.name.now c.args.text.now) P c.args.inputs out (seen_end c.ask.result.0) (map seen_rule c.in-Ok.rules.items) c.in-Ok.ensures.rules
     (rw c.deref.ensures.value at (c.ask.ensures Content not))

@@ -1,4 +1,4 @@
-use Rattle.std.proofs.Common.{◌≡◌, None, Result, option_map, rules, subst, sym}
+use Rattle.std.proofs.Common.{◌≡◌, None, Option, Result, option_map, rules, subst, sym}
 use Rattle.inc_args.specs.Views.{seen_limits, seen_question, seen_request, seen_rules}
 use Rattle.inc_inputs.specs.Reports.{Report}
 use Rattle.inc_inputs.specs.RuleLists.{rule_name, rules_given}
@@ -8,6 +8,7 @@ use Rattle.inc_cli.specs.Processes.{IsAnswerTo, IsAskedBy, IsPromiseOf, IsRuledB
 use Rattle.inc_cli.specs.Questions.{Content, Opens, Promise}
 use Rattle.inc_cli.specs.Runs.{no_limits}
 use Rattle.inc_cli.specs.Scans.{IsScan}
+use Rattle.inc_report.specs.declared.named.Format.{Format}
 use Rattle.inc_report.specs.declared.scan.ScanForm.{ScanForm}
 use Rattle.inc_cli.specs.Views.{output_of, seen_command, seen_end}
 use Rattle.inc_cli.proofs.runs.answer_in.Goals as goal
@@ -106,8 +107,22 @@ returns-in-Ok-formatted-2-clause-answered g c not =
     (subst (λ (command : Result Command Report). Follows (λ k. IsAskedBy Content gives o language k q no_limits) command c.args.inputs out answer) c.in-Ok-formatted-2.ensures
     (subst (λ l. IsAskedBy Content gives o language (seen_command c.in-Ok-formatted-2.command) q l c.args.inputs out answer) none (c.ask-in-Ok-formatted-2.ensures Content not)))
 
-pub returns-in-Rules-clause-answered : goal.returns-in-Rules-clause-answered
-returns-in-Rules-clause-answered g c not =
+pub returns-in-Ok-cost_of-clause-answered : goal.returns-in-Ok-cost_of-clause-answered
+returns-in-Ok-cost_of-clause-answered g c not =
+    let gives = g.I.Inputs.gives in
+    let o : Opens g.row.I.Denot g.row.I-Stream.Denot = record { opens = g.I.Inputs.opens; left = g.I.Stream.ByteSource.left } in
+    let language = c.args.setup.now.language in
+    let terminal = c.args.setup.now.is_terminal in
+    let out = output_of (g.O.ByteSink.written c.args.out) (g.O.ByteSink.written c.ask-in-Ok-cost_of.result.1) (g.O.ByteSink.has_failed c.ask-in-Ok-cost_of.result.1) in
+    let answer = seen_end c.ask-in-Ok-cost_of.result.0 in
+    let q = seen_question c.in-Cost.question in
+    let none : seen_limits (record { fixed = None; keep = c.new.result; only = c.new-2.result; costs = None }) ≡ no_limits = search rules in
+    subst (λ r. IsAnswerTo gives g.I.Inputs.puts o language terminal (seen_request r) c.args.inputs out answer) (sym c.in-Cost.is)
+    (subst (λ (command : Result Command Report). Follows (λ k. IsAskedBy Content gives o language k q no_limits) command c.args.inputs out answer) c.in-Ok-cost_of.ensures
+    (subst (λ l. IsAskedBy Content gives o language (seen_command c.in-Ok-cost_of.command) q l c.args.inputs out answer) none (c.ask-in-Ok-cost_of.ensures Content not)))
+
+pub returns-in-Ok-rules_format-clause-answered : goal.returns-in-Ok-rules_format-clause-answered
+returns-in-Ok-rules_format-clause-answered g c not =
     let gives = g.I.Inputs.gives in
     let o : Opens g.row.I.Denot g.row.I-Stream.Denot = record { opens = g.I.Inputs.opens; left = g.I.Stream.ByteSource.left } in
     let language = c.args.setup.now.language in
@@ -118,4 +133,6 @@ returns-in-Rules-clause-answered g c not =
     let w = seen_rules c.in-Rules.words in
     let none : seen_limits (record { fixed = None; keep = c.new.result; only = c.new-2.result; costs = None }) ≡ no_limits = search rules in
     subst (λ r. IsAnswerTo gives g.I.Inputs.puts o language terminal (seen_request r) c.args.inputs out answer) (sym c.in-Rules.is)
-    (subst (λ l. IsRun (rules_given gives w) (IsRuledBy gives o language q l (rule_name w)) c.args.inputs out answer) none (c.ask_rules.ensures not))
+    (subst (λ (format : Result (Option Format) Report). Follows (λ f. IsRun (rules_given gives w) (IsRuledBy gives o language q no_limits (rule_name w) f)) format c.args.inputs out answer)
+    c.in-Ok-rules_format.ensures
+    (subst (λ l. IsRun (rules_given gives w) (IsRuledBy gives o language q l (rule_name w) c.in-Ok-rules_format.format) c.args.inputs out answer) none (c.ask_rules.ensures not)))

@@ -21,18 +21,18 @@ returns-in-Ok-clause-sent g c =
     let q = c.args.question.now in
     prints_all
     (λ (p : Printed). (plain : Printed) × OfKept c.find_graph.new.sources.files c.args.project.now (λ listing.
-    IsStrictOf c.args.form q c.args.limits.now q.language listing c.args.project.now c.in-Ok.graph plain × IsInFormat c.args.form q c.args.project.now (kind_of q.language listing) plain p))
+    IsStrictOf c.args.form q c.args.details.now q.language listing c.args.project.now c.in-Ok.graph plain × IsInFormat c.args.form q c.args.project.now (kind_of q.language listing) plain p))
     _ _ _ c.answer_strictly.result
-    (λ p is. named_given g.S.Sources.gives c.args.kept.now c.find_graph.new.sources c.args.project.now c.args.form c.args.question.now c.args.limits.now p is.0 c.in-Ok.graph
+    (λ p is. named_given g.S.Sources.gives c.args.kept.now c.find_graph.new.sources c.args.project.now c.args.form c.args.question.now c.args.details.now p is.0 c.in-Ok.graph
     (length c.args.project.now.paths) c.requires is.1 (c.in-Ok.ensures.graph is.0))
     (subst (λ (language : Language). Prints (λ (p : Printed). (plain : Printed) × OfKept c.find_graph.new.sources.files c.args.project.now (λ listing.
-    IsStrictOf c.args.form q c.args.limits.now language listing c.args.project.now c.in-Ok.graph plain × IsInFormat c.args.form q c.args.project.now (kind_of language listing) plain p))
+    IsStrictOf c.args.form q c.args.details.now language listing c.args.project.now c.in-Ok.graph plain × IsInFormat c.args.form q c.args.project.now (kind_of language listing) plain p))
     c.args.out.now c.answer_strictly.new.out c.answer_strictly.result) (ap (λ (x : Question). x.language) c.question.view_is) c.answer_strictly.ensures.sent)
 
 pub returns-in-Err-clause-sent : goal.returns-in-Err-clause-sent
 returns-in-Err-clause-sent g c =
     prints_all _ _ _ _ c.refuse.result
-    (λ p is. named_refused g.S.Sources.gives c.args.kept.now c.find_graph.new.sources c.args.project.now c.args.form c.args.question.now c.args.limits.now p is.0 is.2
+    (λ p is. named_refused g.S.Sources.gives c.args.kept.now c.find_graph.new.sources c.args.project.now c.args.form c.args.question.now c.args.details.now p is.0 is.2
     (c.in-Err.ensures.stopped is.0 is.1))
     c.refuse.ensures.sent
 

@@ -1,16 +1,25 @@
+use Rattle.std.proofs.Common.{subst}
+use Rattle.inc_report.specs.JsonAnswers.{about_subject}
+use Rattle.inc_report.specs.NamedText.{IsRuleReport}
+use Rattle.inc_report.specs.Terms.{Details}
 use Rattle.inc_report.specs.Told.{told_printed}
-use Rattle.inc_report.proofs.NamedLemmas.{graph_report, who_report, why_report}
+use Rattle.inc_report.proofs.NamedLemmas.{graph_report, rule_report, who_report, why_report}
 use Rattle.inc_report.proofs.WritingLemmas.{prints_one}
 use Rattle.inc_report.proofs.named.answer_graph.Goals as goal
 
 pub returns-in_ok-explain-in-Why-clause-sent : goal.returns-in_ok-explain-in-Why-clause-sent
 returns-in_ok-explain-in-Why-clause-sent g c =
-    prints_one _ _ _ _ _ (why_report c.args.form c.args.question.now c.args.limits.now c.args.subject c.requires.kept _ c.in-Why.is c.in_ok-explain-in-Why.ensures) c.send.ensures
+    prints_one _ _ _ _ _ (why_report c.args.form c.args.question.now c.args.details.now c.args.subject c.requires.kept _ c.in-Why.is c.in_ok-explain-in-Why.ensures) c.send.ensures
 
 pub returns-in_ok-tell-in-Who-clause-sent : goal.returns-in_ok-tell-in-Who-clause-sent
 returns-in_ok-tell-in-Who-clause-sent g c =
-    prints_one _ _ _ _ _ (who_report c.args.form c.args.question.now c.args.limits.now c.args.subject c.requires.kept _ c.in-Who.is c.in_ok-tell-in-Who.ensures) c.send-in-Who.ensures
+    prints_one _ _ _ _ _ (who_report c.args.form c.args.question.now c.args.details.now c.args.subject c.requires.kept _ c.in-Who.is c.in_ok-tell-in-Who.ensures) c.send-in-Who.ensures
 
 pub returns-in_ok-list-in-Graph-clause-sent : goal.returns-in_ok-list-in-Graph-clause-sent
 returns-in_ok-list-in-Graph-clause-sent g c =
-    prints_one _ _ _ _ _ (graph_report c.args.form c.args.question.now c.args.limits.now c.args.subject c.requires.kept _ c.in-Graph.is c.in_ok-list-in-Graph.ensures) c.send-in-Graph.ensures
+    prints_one _ _ _ _ _ (graph_report c.args.form c.args.question.now c.args.details.now c.args.subject c.requires.kept _ c.in-Graph.is c.in_ok-list-in-Graph.ensures) c.send-in-Graph.ensures
+
+pub returns-in_ok-rule-in-Rules-clause-sent : goal.returns-in_ok-rule-in-Rules-clause-sent
+returns-in_ok-rule-in-Rules-clause-sent g c =
+    prints_one _ _ _ _ _ (rule_report c.args.form c.args.question.now c.args.details.now c.args.subject c.requires.kept _ c.in-Rules.is
+    (subst (λ (d : Details). IsRuleReport c.args.form d.rules (about_subject c.args.subject) (told_printed c.in_ok-rule-in-Rules.field-0)) c.details.view_is c.in_ok-rule-in-Rules.ensures)) c.send-in-Rules.ensures

@@ -10,7 +10,7 @@ pub returns-then-is_empty-clause-sent : goal.returns-then-is_empty-clause-sent
 returns-then-is_empty-clause-sent g c =
     let none : c.in_ok-strays.strays.items ≡ [] = none_by c.in_ok-strays.strays.items c.in_ok-strays.strays.len c.in_ok-strays.strays.ok.0 (sym c.is_empty.ensures ∙ c.if-is_empty.true) in
     prints_all _ _ _ _ c.answer_graph.result
-    (λ p is. strict_none c.args.form c.args.question.now c.args.limits.now c.args.subject c.requires.kept p
+    (λ p is. strict_none c.args.form c.args.question.now c.args.details.now c.args.subject c.requires.kept p
     (sym c.in_ok-strays.ensures.strays ∙ ap (map (missing_at c.args.subject.graph.now.missing)) none) is)
     c.answer_graph.ensures.sent
 
@@ -20,7 +20,7 @@ returns-in-Gcc-clause-sent g c =
     let some : c.in_ok-strays.strays.items ≢ [] = some_by c.in_ok-strays.strays.items c.in_ok-strays.strays.len c.in_ok-strays.strays.ok.0 (sym c.is_empty.ensures ∙ c.if-is_empty.false) in
     let there = subst (λ (l : List Missing). l ≢ []) c.in_ok-strays.ensures.strays (some_at ms c.in_ok-strays.strays.items some) in
     prints_all _ _ _ _ c.refuse_strays.result
-    (λ p is. strict_text c.args.form c.args.question.now c.args.limits.now c.args.subject c.requires.kept p there (no_object c.args.form.format c.in-Gcc.is)
+    (λ p is. strict_text c.args.form c.args.question.now c.args.details.now c.args.subject c.requires.kept p there (no_object c.args.form.format c.in-Gcc.is)
     (is ∙ ap (not_found c.args.subject.project.now) (ap (map (missing_at ms)) c.deref.ensures.value ∙ c.in_ok-strays.ensures.strays)))
     c.refuse_strays.ensures.sent
 
@@ -30,6 +30,6 @@ returns-clause-sent g c =
     let some : c.in_ok-strays.strays.items ≢ [] = some_by c.in_ok-strays.strays.items c.in_ok-strays.strays.len c.in_ok-strays.strays.ok.0 (sym c.is_empty.ensures ∙ c.if-is_empty.false) in
     let there = subst (λ (l : List Missing). l ≢ []) c.in_ok-strays.ensures.strays (some_at ms c.in_ok-strays.strays.items some) in
     prints_one _ _ _ _ _
-    (strict_object c.args.form c.args.question.now c.args.limits.now c.args.subject c.requires.kept _ there c.in-Json.is
+    (strict_object c.args.form c.args.question.now c.args.details.now c.args.subject c.requires.kept _ there c.in-Json.is
     (c.in_ok-strays_report-in-Json.ensures ∙ ap (refused_object c.args.subject c.args.form.asked) (ap (map (missing_at ms)) c.deref-in-Json.ensures.value ∙ c.in_ok-strays.ensures.strays)))
     c.send.ensures

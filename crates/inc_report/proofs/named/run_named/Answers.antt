@@ -13,7 +13,7 @@ pub returns-clause-headline : goal.returns-clause-headline
 returns-clause-headline g c =
     rw (c.into_sources.ensures, ← c.in-Ok-new.ensures.sources)
     (finished _ _ _ _ _ _ _ _ _ c.requires c.in-Ok.ensures.output
-    (prints_all _ _ _ _ c.answer-ended.result (λ p is. given_all is (λ given listing laid holds. named_headline c.args.form c.args.question.now c.args.limits.now p given listing holds)) c.answer-ended.ensures.sent)
+    (prints_all _ _ _ _ c.answer-ended.result (λ p is. given_all is (λ given listing laid holds. named_headline c.args.form c.args.question.now c.args.details.now p given listing holds)) c.answer-ended.ensures.sent)
     c.finish-result.ensures)
 
 pub returns-clause-certificate : goal.returns-clause-certificate

@@ -14,6 +14,6 @@ returns c =
     let first =
     c.at-first.ensures ∙ ap (λ (ms : List Missing). missing_at ms name.place) (c.missing.ensures.missing ∙ ap (λ (g : Graph). g.missing) c.graph-graph.ensures) in
     subst (λ (t : List ℕ). OnOk c.put-2.result (c.put-2.new.self ≡ puts old t)) (ap (λ (m : Missing). missing_item (about_of old) (named_by m name.count)) first)
-    (ends_then c.put-2.result old c.put_name.new.self c.put-2.new.self _ _
-    (puts_then old c.put.new.self c.put_name.new.self _ _ (puts_then old c.put_count.new.self c.put.new.self _ _ c.in_ok-put_count.ensures form) c.in_ok-put_name.ensures)
+    (ends_then c.put-2.result old c.put_bytes_member.new.self c.put-2.new.self _ _
+    (puts_then old c.put.new.self c.put_bytes_member.new.self _ _ (puts_then old c.put_count.new.self c.put.new.self _ _ c.in_ok-put_count.ensures form) c.in_ok-put_bytes_member.ensures)
     c.put-2.ensures)

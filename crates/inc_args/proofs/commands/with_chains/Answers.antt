@@ -1,0 +1,11 @@
+use Rattle.std.proofs.Common.{◌∙◌, ap, ap₂}
+use Rattle.std.proofs.lemmas.Result.{IfOk-weaker}
+use Rattle.clap.specs.Words.{app_of, with_rule}
+use Rattle.inc_args.proofs.commands.with_chains.Goals as goal
+
+pub returns : goal.returns
+returns c =
+    let one = c.in_ok-arg.ensures.shape c.repeated_option.ensures.local ∙ ap (with_rule (app_of c.args.command)) c.repeated_option.ensures.rule in
+    let two = c.in_ok-arg-2.ensures.shape c.flag.ensures.local ∙ ap₂ with_rule one c.flag.ensures.rule in
+    let three = c.in_ok-arg-3.ensures.shape c.option.ensures.local ∙ ap₂ with_rule two c.option.ensures.rule in
+    IfOk-weaker c.arg-4.result _ _ (λ r h. h.shape c.option-2.ensures.local ∙ ap₂ with_rule three c.option-2.ensures.rule) c.arg-4.ensures

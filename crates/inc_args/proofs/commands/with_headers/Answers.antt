@@ -1,0 +1,10 @@
+use Rattle.std.proofs.Common.{◌∙◌, ap, ap₂}
+use Rattle.std.proofs.lemmas.Result.{IfOk-weaker}
+use Rattle.clap.specs.Words.{app_of, with_rule}
+use Rattle.inc_args.proofs.commands.with_headers.Goals as goal
+
+pub returns : goal.returns
+returns c =
+    let one = c.in_ok-arg.ensures.shape c.repeated_option.ensures.local ∙ ap (with_rule (app_of c.args.command)) c.repeated_option.ensures.rule in
+    let two = c.in_ok-arg-2.ensures.shape c.repeated_option-2.ensures.local ∙ ap₂ with_rule one c.repeated_option-2.ensures.rule in
+    IfOk-weaker c.arg-3.result _ _ (λ r h. h.shape c.optional_word.ensures.local ∙ ap₂ with_rule two c.optional_word.ensures.rule) c.arg-3.ensures

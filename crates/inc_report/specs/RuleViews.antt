@@ -1,0 +1,8 @@
+-- Rules that are asked about, as the code holds them.
+use Rattle.std.specs.Prelude.{map}
+use Rattle.inc_report.specs.Terms.{RuleList}
+use Rattle.inc_report.specs.declared.asked.RuleList.{RuleList as declared}
+use Rattle.inc_rules.specs.Views.{seen_rule}
+
+abbrev pub seen_list : declared → RuleList
+seen_list l = record { name = l.name.now; rules = map seen_rule l.rules.now }
