@@ -125,6 +125,14 @@ impl Flow {
     }
 }
 
+/// How many edges a graph has.
+#[inline(always)]
+pub(crate) fn edge_count(graph: &TwoWayGraph<'_>) -> usize
+    ensures { result ≡ length graph.now.edges }
+{
+    graph.edges().len()
+}
+
 /// A step along an edge, or back over it.
 #[derive(Clone, Copy, Debug, PartialEq, Eq)]
 pub struct Step {

@@ -4,6 +4,7 @@
 
 mod chains;
 mod flows;
+mod goals;
 pub mod laws;
 mod searches;
 mod smallest;

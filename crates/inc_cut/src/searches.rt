@@ -8,6 +8,7 @@ ghost use Rattle.inc_cut.specs.NextSteps.{ahead_of, back_of};
 ghost use Rattle.inc_cut.specs.Searches.{IsFinished, step_next};
 
 mod descents;
+mod headed;
 mod next_steps;
 mod scaled_dinic;
 

@@ -4,11 +4,13 @@ ghost use Rattle.std.specs.Bool.{OnTrue};
 ghost use Rattle.std.specs.Global.{Global};
 ghost use Rattle.inc_graph.specs.IncludeGraph as spec;
 ghost use Rattle.inc_graph.specs.IncludeGraph.{IsSound};
-ghost use Rattle.inc_cut.specs.Flows.{AreFor, IsFound, is_path_by};
+ghost use Rattle.inc_cut.specs.Flows.{AreFor, IsFound, is_open_by, is_path_by};
 ghost use Rattle.inc_cut.specs.Phases.{IsUp, IsWay, IsPathIfSome, left_over, levels_end, rank};
 ghost use Rattle.inc_cut.specs.Searches.{IsFinished};
 
 use crate::flows::{Flow, Found, PathSearch, Step};
+use crate::goals::levels_of;
+use crate::searches::headed::Heading;
 use crate::searches::next_steps::{NextStep, step_at, step_source, with_target};
 use crate::searches::{answer, reach_by_levels};
 use crate::steps::{AheadSteps, OpenSteps, StepTest, WideSteps};
@@ -26,11 +28,17 @@ const LEAST_PART: u64 = 256;
 /// So many times the files of a shortest path may be given up by one search that asks for room.
 const PATIENCE: u32 = 4;
 
+/// After so many searches by levels a largest flow is guessed at, and headed for.
+const MOST_PHASES: u32 = 8;
+
 /// Dinic's algorithm with capacity scaling: a search for augmenting paths in the level graph of an earlier breadth-first search, which is
 /// begun anew where it gives no path, once its flow is a blocking flow. A file that gives no path is not looked at again until then. First it looks for paths with much room, so that few
 /// paths carry most of the flow: two thirds of the greatest cost at the sources, then two thirds of that, and so on. Where a search gives
 /// up many files, few paths with so much room are left, and it asks for less at once: to look at all files would take longer than all
 /// paths do.
+///
+/// Where levels were searched often, there are paths of many lengths: then a largest flow is guessed at in one go, and the paths are those
+/// along which the flow comes nearer to it, each of them checked. What is left after these is found as before.
 #[derive(Drop)]
 pub struct PhaseSearch {
     /// For each file of the graph the number of files on a shortest path to it when levels were last searched; 0 where there was none
@@ -52,6 +60,9 @@ pub struct PhaseSearch {
     turns_back: bool,
     /// The list of a path that was given back, for the next one.
     spare: Vec<Step>,
+    /// How often levels were searched since a flow was guessed at.
+    phases: u32,
+    heading: Heading,
 }
 
 impl PathSearch for PhaseSearch {
@@ -64,6 +75,9 @@ impl PathSearch for PhaseSearch {
     ) -> Result<Found, AllocError> {
         if self.levels.len() != graph.files() {
             self.begin(alloc, graph, fixed)?;
+        }
+        if let Some(ahead) = self.head_on(alloc, graph, fixed, flow)? {
+            return Ok(Found::Path(ahead));
         }
         let mut least = self.least;
         while least > 1 {
@@ -84,11 +98,11 @@ impl PathSearch for PhaseSearch {
 
 /// Steps from a source to a file.
 #[derive(Drop)]
-struct Way {
-    steps: Vec<Step>,
-    file: FileId,
+pub(super) struct Way {
+    pub steps: Vec<Step>,
+    pub file: FileId,
     /// How many files may still be given up.
-    patience: u32,
+    pub patience: u32,
 }
 
 impl PhaseSearch {
@@ -104,7 +118,24 @@ impl PhaseSearch {
             patience: 0,
             turns_back: true,
             spare: Vec::new(alloc),
+            phases: 0,
+            heading: Heading::none(alloc),
         }
+    }
+
+    /// A search along the edges with flow, by levels that rise along each of them where the flow has no circle.
+    pub(crate) fn along(
+        alloc: Global,
+        graph: &TwoWayGraph<'_>,
+        flow: &Flow,
+    ) -> Result<PhaseSearch, AllocError>
+        requires { length flow.now ≡ length graph.now.edges }
+    {
+        let mut search = PhaseSearch::new(alloc);
+        search.levels = levels_of(alloc, graph, flow)?;
+        search.tried = vec![in alloc; 0; graph.files()]?;
+        search.turns_back = false;
+        Ok(search)
     }
 
     /// Searches by levels, and finds with how much room to begin. Where nothing flows yet, the open steps are those ahead.
@@ -123,6 +154,35 @@ impl PhaseSearch {
         self.patience = self.patience_by(graph.headers());
         self.ranks = Vec::with_capacity(alloc, self.levels.len())?;
         self.ranks.extend_from_slice(&self.levels)
+    }
+
+    /// A path towards the flow that is guessed at, where levels were searched often.
+    fn head_on(
+        &mut self,
+        alloc: Global,
+        graph: &TwoWayGraph<'_>,
+        fixed: &Fixed,
+        flow: &Flow,
+    ) -> Result<Option<Vec<Step>>, AllocError>
+        requires { AreFor graph.now fixed.now flow.now }
+        ensures { IfOk result (λ path. IsPathIfSome graph.now (is_open_by fixed.now flow.now)
+            (option_map (λ (steps : Vec Step Global). steps.items) path)) }
+    {
+        if self.phases >= MOST_PHASES {
+            self.phases = 0;
+            self.heading.begin(alloc, graph, fixed, flow)?;
+        }
+        if !self.heading.is_begun() {
+            return Ok(None);
+        }
+        let is_done = self.heading.is_done();
+        let path = self
+            .heading
+            .path(alloc, graph, fixed, flow, &mut self.spare)?;
+        if path.is_none() && !is_done {
+            self.phases = MOST_PHASES;
+        }
+        Ok(path)
     }
 
     /// How many files a search that asks for room may give up, by how many there are on a shortest path to a header.
@@ -202,6 +262,7 @@ impl PhaseSearch {
         let search = reach_by_levels(alloc, graph, test)?;
         self.keep(alloc, graph, &search)?;
         self.turns_back = true;
+        self.phases = self.phases.saturating_add(1);
         answer(alloc, graph, &search)
     }
 
@@ -349,7 +410,7 @@ impl PhaseSearch {
                 continue;
             }
             let next = with_target(graph, step, file);
-            if self.leads_up(file, next.to) && test.passes(next.step) {
+            if leads_up(&self.levels, file, next.to) && test.passes(next.step) {
                 self.tried[file.index()] = hint_of(index);
                 return Some(next);
             }
@@ -364,17 +425,6 @@ impl PhaseSearch {
         ensures { result ≤ steps }
     {
         if self.turns_back { steps } else { 0 }
-    }
-
-    /// Whether a file has a greater level than another.
-    fn leads_up(&self, file: FileId, to: FileId) -> bool
-        requires file { file < length self.now.levels.items }
-        requires to { to < length self.now.levels.items }
-        ensures up { result
-            ≡ nat_lt (rank self.now.levels.items file) (rank self.now.levels.items to) }
-        ensures most { rank self.now.levels.items to < levels_end }
-    {
-        self.levels[file.index()] < self.levels[to.index()]
     }
 
     /// Keeps the levels of a search by levels.
@@ -407,6 +457,16 @@ impl PhaseSearch {
             None => 0,
         }
     }
+}
+
+/// Whether a file has a greater level than another.
+pub(super) fn leads_up(levels: &[u16], file: FileId, to: FileId) -> bool
+    requires file { file < length levels.now }
+    requires to { to < length levels.now }
+    ensures up { result ≡ nat_lt (rank levels.now file) (rank levels.now to) }
+    ensures most { rank levels.now to < levels_end }
+{
+    levels[file.index()] < levels[to.index()]
 }
 
 /// A number of steps as it is kept. No file has more than two steps for each directive of the graph.
