@@ -406,9 +406,7 @@ fn with_views<'a>(alloc: Global, program: Command<'a>) -> Result<Command<'a>, Al
 fn with_surveys<'a>(alloc: Global, program: Command<'a>) -> Result<Command<'a>, AllocError>
     ensures { IfOk result (λ c. app_of c ≡ line.with_surveys (app_of program.entry)) }
 {
-    program
-        .subcommand(rules(alloc)?)?
-        .subcommand(cost(alloc)?)
+    program.subcommand(rules(alloc)?)?.subcommand(cost(alloc)?)
 }
 
 /// Adds the commands that tell what to edit, check it, and preprocess.
