@@ -15,9 +15,9 @@ _incut() {
         help) options="scan why who graph rules cost cut check pp" ;;
         scan) options+=" --format" ;;
         why) options+=" -p --files --root --follow --null -0 -I --iquote --isystem --idirafter --without --drop --strict --external --quiet -q --fail-if-reached --format --all --max --undefined --from --to" ;;
-        graph) options+=" -p --files --root --follow --null -0 -I --iquote --isystem --idirafter --without --drop --strict --external --undefined --format --from" ;;
-        cost) options+=" -p --files --root --follow --null -0 -I --iquote --isystem --idirafter --without --drop --strict --external --quiet -q --undefined --top --from" ;;
-        rules) options+=" -p --files --root --follow --null -0 -I --iquote --isystem --idirafter --without --drop --strict --external --quiet -q --undefined --format -e" ;;
+        graph) options+=" -p --files --root --follow --null -0 -I --iquote --isystem --idirafter --without --drop --strict --external --quiet -q --undefined --format --from" ;;
+        cost) options+=" -p --files --root --follow --null -0 -I --iquote --isystem --idirafter --without --drop --strict --external --quiet -q --undefined --format --top --from --to" ;;
+        rules) options+=" -p --files --root --follow --null -0 -I --iquote --isystem --idirafter --without --drop --strict --external --quiet -q --undefined --format --baseline -e" ;;
         who) options+=" -p --files --root --follow --null -0 -I --iquote --isystem --idirafter --without --drop --strict --external --quiet -q --fail-if-reached --undefined --from --to --chains --format --max" ;;
         cut) options+=" -p --files --root --follow --null -0 -I --iquote --isystem --idirafter --without --drop --strict --external --undefined --from --to --fixed --keep --only --costs --quiet -q --blank --patch --format --all --max" ;;
         check) options+=" -p --files --root --follow --null -0 -I --iquote --isystem --idirafter --without --drop --strict --external --undefined --from --to --fixed --keep --only --costs --quiet -q" ;;

@@ -103,8 +103,8 @@ pub sources_are_asked : meaning (codes "incut" ∷ codes "who" ∷ codes "--file
 unfolding clap_on_literals
 sources_are_asked = refl
 
--- all edges that two sources reach, which are named
-pub edges_are_asked : meaning (codes "incut" ∷ codes "graph" ∷ codes "--from" ∷ codes "a.c" ∷ codes "--drop=a.c:3" ∷ codes "--files" ∷ codes "f" ∷ codes "--from" ∷ codes "b.c" ∷ [])
+-- all edges that two sources reach, which are named, without notes
+pub edges_are_asked : meaning (codes "incut" ∷ codes "graph" ∷ codes "-q" ∷ codes "--from" ∷ codes "a.c" ∷ codes "--drop=a.c:3" ∷ codes "--files" ∷ codes "f" ∷ codes "--from" ∷ codes "b.c" ∷ [])
     ≡ record {
       asked = Graph (record {
         files = record { build = None; list = Some (codes "f"); is_null = false; roots = []; dirs = []; quoted = []; system = []; last = [] };
@@ -119,7 +119,7 @@ pub edges_are_asked : meaning (codes "incut" ∷ codes "graph" ∷ codes "--from
         undefined = [];
       }) (record { name = None; is_all = false; fails = false; most = None });
       languages = record { is_extended = false; is_gnu = false };
-      is_quiet = false;
+      is_quiet = true;
       follows = false;
     }
 unfolding clap_on_literals

@@ -165,6 +165,9 @@ rules_file = optional_word (codes "RULES")
 abbrev pub rule : Rule
 rule = repeated 101 (codes "rule")
 
+abbrev pub baseline : Rule
+baseline = option (codes "baseline")
+
 abbrev pub undefined : Rule
 undefined = repeated_option (codes "undefined")
 
@@ -263,11 +266,11 @@ graph_rules = undefined ∷ format ∷ from ∷ []
 
 -- which rules are asked about, in builds that do not define some names, and in which format they are answered
 abbrev pub rule_rules : List Rule
-rule_rules = undefined ∷ format ∷ rule ∷ rules_file ∷ []
+rule_rules = undefined ∷ format ∷ baseline ∷ rule ∷ rules_file ∷ []
 
--- what includes cost: in builds that do not define some names, how much is printed, and from which sources
+-- what includes cost: in builds that do not define some names, in which format and how much is printed, from which sources, and to which groups of headers
 abbrev pub cost_rules : List Rule
-cost_rules = undefined ∷ top ∷ from ∷ []
+cost_rules = undefined ∷ format ∷ top ∷ from ∷ to ∷ []
 
 abbrev pub scan : App
 scan = command (codes "scan") (extended ∷ gnu ∷ format ∷ path ∷ [])
@@ -279,7 +282,7 @@ abbrev pub who : App
 who = command (codes "who") (extended ∷ gnu ∷ file_rules ++ drop_rules ++ strict_rules ++ note_rules ++ reach_rules ++ chain_rules ++ header_rules)
 
 abbrev pub graph : App
-graph = command (codes "graph") (extended ∷ gnu ∷ file_rules ++ drop_rules ++ strict_rules ++ graph_rules)
+graph = command (codes "graph") (extended ∷ gnu ∷ file_rules ++ drop_rules ++ strict_rules ++ note_rules ++ graph_rules)
 
 abbrev pub rules : App
 rules = command (codes "rules") (extended ∷ gnu ∷ file_rules ++ drop_rules ++ strict_rules ++ note_rules ++ rule_rules)

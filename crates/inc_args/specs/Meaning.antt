@@ -92,6 +92,8 @@ pub record Preprocessing : Type 0 where
 pub record RuleWords : Type 0 where
   pub file : Option Text
   pub rules : List Text
+  -- the file that lists directives that may still break them
+  pub baseline : Option Text
 
 -- a command with what it is asked
 pub data Asked : Type 0 where
@@ -104,8 +106,8 @@ pub data Asked : Type 0 where
   Graph : Question → Format → Asked
   -- about the sources of rules
   Rules : Question → RuleWords → Format → Asked
-  -- about sources alone, of which at most so many headers and directives are printed
-  Cost : Question → (top : Option Text) → Asked
+  -- about sources and groups of headers: at most so many headers and directives are printed
+  Cost : Question → (top : Option Text) → Format → Asked
   Cut : Question → Limits → Forms → Asked
   -- and the certificate
   Check : Question → Limits → Text → Asked
@@ -183,8 +185,17 @@ or_all build (word ∷ words) = word ∷ words
 abbrev pub who_in : List Row → Question
 who_in rows = record (question_in rows) { from = or_all (first_of (codes "build") rows) (values_of (codes "from") rows) }
 
+-- the words of --from, or the glob of the sources of the build, where there is one and neither such a word nor one for a source
+abbrev pub or_built : (build source : Option Text) → List Text → List Text
+or_built (Some build) None words = or_all (Some build) words
+or_built build source words = words
+
+abbrev pub ends_in : List Row → Question
+ends_in rows =
+    record (question_in rows) { from = or_built (first_of (codes "build") rows) (first_of (codes "SOURCE") rows) (values_of (codes "from") rows) }
+
 abbrev pub rules_in : List Row → RuleWords
-rules_in rows = record { file = first_of (codes "RULES") rows; rules = values_of (codes "rule") rows }
+rules_in rows = record { file = first_of (codes "RULES") rows; rules = values_of (codes "rule") rows; baseline = first_of (codes "baseline") rows }
 
 abbrev pub limits_in : List Row → Limits
 limits_in rows = record {
@@ -225,13 +236,13 @@ preprocessing_in rows = record {
 -- the command of this name
 abbrev pub asked_by : Text → List Row → Asked
 asked_by name rows =
-    if bytes_eq name (codes "why") then Why (question_in rows) (format_in (codes "all") rows) else
+    if bytes_eq name (codes "why") then Why (ends_in rows) (format_in (codes "all") rows) else
     if bytes_eq name (codes "who") then Who (who_in rows) (format_in (codes "chains") rows) else
     if bytes_eq name (codes "graph") then Graph (who_in rows) (format_in (codes "all") rows) else
     if bytes_eq name (codes "rules") then Rules (question_in rows) (rules_in rows) (format_in (codes "all") rows) else
-    if bytes_eq name (codes "cost") then Cost (who_in rows) (first_of (codes "top") rows) else
-    if bytes_eq name (codes "cut") then Cut (question_in rows) (limits_in rows) (forms_in rows) else
-    if bytes_eq name (codes "check") then Check (question_in rows) (limits_in rows) (value_of (codes "CERT") rows) else
+    if bytes_eq name (codes "cost") then Cost (who_in rows) (first_of (codes "top") rows) (format_in (codes "all") rows) else
+    if bytes_eq name (codes "cut") then Cut (ends_in rows) (limits_in rows) (forms_in rows) else
+    if bytes_eq name (codes "check") then Check (ends_in rows) (limits_in rows) (value_of (codes "CERT") rows) else
     if bytes_eq name (codes "pp") then Pp (preprocessing_in rows) else Scan (first_of (codes "PATH") rows) (first_of (codes "format") rows)
 
 -- a flag that is given before a command or after it

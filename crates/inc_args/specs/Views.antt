@@ -70,7 +70,7 @@ abbrev pub seen_forms : FormArgs → Forms
 seen_forms f = record { is_blank = f.blank; is_patch = f.patch; format = seen_format f.format }
 
 abbrev pub seen_rules : RuleArgs → RuleWords
-seen_rules r = record { file = option_map (λ f. f.now) r.file; rules = map (λ w. w.now) r.rules.items }
+seen_rules r = record { file = option_map (λ f. f.now) r.file; rules = map (λ w. w.now) r.rules.items; baseline = option_map (λ b. b.now) r.baseline }
 
 abbrev pub seen_languages : LanguageArgs → Languages
 seen_languages l = record { is_extended = l.extended; is_gnu = l.gnu }
@@ -81,7 +81,7 @@ seen_request (request.Why q f) = Why (seen_question q) (seen_format f)
 seen_request (request.Who q f) = Who (seen_question q) (seen_format f)
 seen_request (request.Graph q f) = Graph (seen_question q) (seen_format f)
 seen_request (request.Rules q r f) = Rules (seen_question q) (seen_rules r) (seen_format f)
-seen_request (request.Cost q top) = Cost (seen_question q) (option_map (λ t. t.now) top)
+seen_request (request.Cost q top f) = Cost (seen_question q) (option_map (λ t. t.now) top) (seen_format f)
 seen_request (request.Cut q l f) = Cut (seen_question q) (seen_limits l) (seen_forms f)
 seen_request (request.Check q l certificate) = Check (seen_question q) (seen_limits l) certificate.now
 seen_request (request.Pp p) = Pp (seen_pp p)

@@ -6,8 +6,9 @@ ghost use Rattle.inc_args.specs.CommandLine.{bound_rules, chain_rules, cost_rule
 
 use crate::help::{
     ABOUT, ALL_HELP, CHECK_NOTES, COST_NOTES, CUT_NOTES, EXAMPLES, EXTENDED_HELP, FORMAT_HELP,
-    GNU_HELP, GRAPH_NOTES, HEADER_HELP, MAX_HELP, PP_NOTES, RULES_NOTES, SCAN_FORMAT_HELP,
-    SCAN_NOTES, SOURCES_HELP, TO_HELP, UNDEFINED_HELP, VERSION, WHO_NOTES, WHY_NOTES,
+    GNU_HELP, GRAPH_NOTES, GROUP_HELP, HEADER_HELP, MAX_HELP, PP_NOTES, RULES_NOTES,
+    SCAN_FORMAT_HELP, SCAN_NOTES, SOURCES_HELP, TO_HELP, UNDEFINED_HELP, VERSION, WHO_NOTES,
+    WHY_NOTES,
 };
 use crate::options::{
     files, flag, null, option, optional_word, path, quiet, repeated, repeated_option, single,
@@ -239,28 +240,33 @@ fn with_sources<'a>(alloc: Global, command: Command<'a>) -> Result<Command<'a>, 
         .arg(repeated_option(alloc, "from", "GLOB", SOURCES_HELP))
 }
 
-/// Adds the rules, what no build defines, and the format of the answer.
+/// Adds the rules, what may still break them, what no build defines, and the format of the answer.
 fn with_rule_words<'a>(alloc: Global, command: Command<'a>) -> Result<Command<'a>, AllocError>
     ensures { IfOk result (λ c. app_of c ≡ with_rules (app_of command.entry) rule_rules) }
 {
     let rule = "Check RULE, as 'src/*.c must not reach net/**', without RULES (repeatable)";
     let rules = "File with rules, one a line; `-` is standard input";
+    let baseline = "Take as removed the directives that FILE names, each by a line PATH:NAME";
     command
         .arg(repeated_option(alloc, "undefined", "NAME", UNDEFINED_HELP))?
         .arg(option(alloc, "format", "FORMAT", FORMAT_HELP))?
+        .arg(option(alloc, "baseline", "FILE", baseline))?
         .arg(repeated(alloc, 'e', "rule", "RULE", rule))?
         .arg(optional_word(alloc, "RULES", rules))
 }
 
-/// Adds what names the sources, which need not be named, what no build defines, and how much is printed.
+/// Adds what names the sources and the groups of headers, which need not be named, what no build defines, the format of the answer, and how
+/// much is printed.
 fn with_cost_words<'a>(alloc: Global, command: Command<'a>) -> Result<Command<'a>, AllocError>
     ensures { IfOk result (λ c. app_of c ≡ with_rules (app_of command.entry) cost_rules) }
 {
     let top = "Print the first N headers and the first N directives [default: 20]";
     command
         .arg(repeated_option(alloc, "undefined", "NAME", UNDEFINED_HELP))?
+        .arg(option(alloc, "format", "FORMAT", FORMAT_HELP))?
         .arg(option(alloc, "top", "N", top))?
-        .arg(repeated_option(alloc, "from", "GLOB", SOURCES_HELP))
+        .arg(repeated_option(alloc, "from", "GLOB", SOURCES_HELP))?
+        .arg(repeated_option(alloc, "to", "GLOB", GROUP_HELP))
 }
 
 fn scan<'a>(alloc: Global) -> Result<Command<'a>, AllocError>
@@ -314,7 +320,8 @@ fn graph<'a>(alloc: Global) -> Result<Command<'a>, AllocError>
         "List all includes that sources reach",
         GRAPH_NOTES,
     )?;
-    with_sources(alloc, with_strict(alloc, with_dropped(alloc, command)?)?)
+    let command = with_strict(alloc, with_dropped(alloc, command)?)?;
+    with_sources(alloc, with_notes(alloc, command)?)
 }
 
 fn rules<'a>(alloc: Global) -> Result<Command<'a>, AllocError>

@@ -14,6 +14,8 @@ pub(crate) const GNU_HELP: &str = "Read the files as GNU C, as gcc does; not wit
 
 pub(crate) const TO_HELP: &str = "Look for the headers that GLOB fits (repeatable)";
 
+pub(crate) const GROUP_HELP: &str = "Print what the headers that GLOB fits bring (repeatable)";
+
 pub(crate) const SOURCES_HELP: &str =
     "Start from the files that GLOB fits (repeatable) [default: **.c]";
 
@@ -121,6 +123,9 @@ A GLOB stands for the files that it fits: `*` for any bytes but `/`, `**` for an
 directories or none, `?` for one byte but `/`, `[a-z]` and `[!a-z]` for one byte but `/`. A word with
 none of `*`, `?` and `[` names one file, as SOURCE and HEADER do. Chains lead from some source to some
 header and pass no other header. A file that --from and --to both stand for is taken as a header alone.
+With -p and neither SOURCE nor --from the sources are all of the build:
+
+  incut why -p build --to 'net/*.h'
 
 --undefined says that no build defines the macro NAME on its command line: `#include NAME` is then
 not blocked, unless a file that SOURCE reaches defines NAME.
@@ -240,9 +245,21 @@ that the rule is not about, separated by spaces or commas; nor is it about files
 Each rule that is broken is printed by the number of its line: with the chains that may not be there,
 the first shortest one of each file, and with the files that do not include what they must. After the
 rules come `missing` and `blocked`, as `incut why` prints them: what these might lead to is not known.
-With --strict it is refused where a header is not found. The exit status is 1 where a rule is broken.
-With --format gcc, the default on a terminal, it is printed with its words, and each directive as it is
-written.
+The exit status is 1 where a rule is broken. With --format gcc, the default on a terminal, it is printed
+with its words, and each directive as it is written.
+
+A glob of a rule that fits no file is noted. With --strict it is an error, and the rules are refused where
+a header is not found.
+
+With --baseline FILE includes that break rules as yet may stay. FILE names them as they are written, so
+that other lines of their files may change:
+
+  # may still break rules
+  mm/slab.c:<net/sock.h>
+  src/ui/list.c:\"../db/pool.h\"
+
+Each rule is checked as though these includes were removed: a rule that holds is one that holds without
+them. A line that names no include is noted, so that it can go.
 
 Includes inside #if groups always count, whether or not the group would be taken. --without names a
 file with directives to take as removed, one a line, --drop directives of files, and --undefined a
@@ -258,6 +275,7 @@ the bytes of the files that are reached. Files are named as for `incut why`:
   headers 2
   2391846 60 include/compat.h
   80311 12 include/net.h
+  groups 0
   directives 2
   410252 60 37 include/compat.h
   80311 12 3 src/net.c
@@ -268,6 +286,13 @@ itself included, and into how many sources; of each include how many bytes go if
 from how many sources, and then its line and its file. The greatest amounts come first. They do not sum
 up: where two includes lead to a header, either can go without a byte less. What several includes
 bring together is the difference of two calls, one with --drop or --without.
+
+--to GLOB asks about a group of headers: `1893412 60 9 include/ssl/**` in `groups` says how many bytes go
+if none of them is read, from how many sources, and in how few includes that can be had. `incut cut` with
+the same --to lists these. There is `blocked` for the last number where includes leave it open.
+
+With --format gcc, the default on a terminal, amounts are printed with words, and each include as it is
+written.
 
 After them is how many includes name headers that are not found (`missing`), and of how many it is not
 known which file they read (`blocked`): what these might lead to is not counted. `incut graph` lists

@@ -4,7 +4,7 @@ ghost use Rattle.std.specs.Option.{option_map_or};
 ghost use Rattle.std.specs.String.{string_bytes};
 ghost use Rattle.clap.specs.Words.{all_of, first_of, found_of, rows_of, subcommand_rows_of};
 ghost use Rattle.inc_args.specs.Meaning as meaning;
-ghost use Rattle.inc_args.specs.Meaning.{asked_by, files_in, format_in, forms_in, is_given_in, languages_in, limits_in, meaning, meaning_of, preprocessing_in, question_in, rules_in, value_of, values_of, who_in};
+ghost use Rattle.inc_args.specs.Meaning.{asked_by, ends_in, files_in, format_in, forms_in, is_given_in, languages_in, limits_in, meaning, meaning_of, preprocessing_in, question_in, rules_in, value_of, values_of, who_in};
 ghost use Rattle.inc_args.specs.Refusals.{IsRefusal, refusals};
 ghost use Rattle.inc_args.specs.Views.{seen_arguments, seen_files, seen_format, seen_forms, seen_languages, seen_limits, seen_pp, seen_question, seen_request, seen_rules};
 
@@ -87,7 +87,7 @@ fn read_request<'a>(
     ensures { IfOk result (λ r. seen_request r ≡ asked_by name.now (rows_of (found_of matches.now))) }
 {
     match name {
-        "why" => Ok(Request::Why(read_question(alloc, matches)?, read_format(matches, "all"))),
+        "why" => Ok(Request::Why(read_ends(alloc, matches)?, read_format(matches, "all"))),
         "who" => Ok(Request::Who(read_who(alloc, matches)?, read_format(matches, "chains"))),
         "graph" => Ok(Request::Graph(read_who(alloc, matches)?, read_format(matches, "all"))),
         "rules" => Ok(Request::Rules(
@@ -95,14 +95,18 @@ fn read_request<'a>(
             read_rules(alloc, matches)?,
             read_format(matches, "all"),
         )),
-        "cost" => Ok(Request::Cost(read_who(alloc, matches)?, given(matches, "top"))),
+        "cost" => Ok(Request::Cost(
+            read_who(alloc, matches)?,
+            given(matches, "top"),
+            read_format(matches, "all"),
+        )),
         "cut" => Ok(Request::Cut(
-            read_question(alloc, matches)?,
+            read_ends(alloc, matches)?,
             read_limits(alloc, matches)?,
             read_forms(matches),
         )),
         "check" => Ok(Request::Check(
-            read_question(alloc, matches)?,
+            read_ends(alloc, matches)?,
             read_limits(alloc, matches)?,
             value(matches, "CERT"),
         )),
@@ -177,6 +181,16 @@ fn read_who<'a>(alloc: Global, matches: &ArgMatches<'a>) -> Result<QuestionArgs<
     Ok(question)
 }
 
+/// The same, where each source of the build, if a word names one, is one if no word says which.
+fn read_ends<'a>(alloc: Global, matches: &ArgMatches<'a>) -> Result<QuestionArgs<'a>, AllocError>
+    ensures { IfOk result (λ q. seen_question q ≡ ends_in (rows_of (found_of matches.now))) }
+{
+    match (given(matches, "build"), given(matches, "SOURCE")) {
+        (Some(_), None) => read_who(alloc, matches),
+        _ => read_question(alloc, matches),
+    }
+}
+
 /// The glob of the sources where no word names them.
 fn all_sources(build: Option<&str>) -> &'static str
     ensures { result.now ≡ meaning.all_sources (option_map (λ b. b.now) build.entry) }
@@ -193,6 +207,7 @@ fn read_rules<'a>(alloc: Global, matches: &ArgMatches<'a>) -> Result<RuleArgs<'a
     Ok(RuleArgs {
         file: given(matches, "RULES"),
         rules: values(alloc, matches, "rule")?,
+        baseline: given(matches, "baseline"),
     })
 }
 

@@ -36,7 +36,7 @@ pub enum Request<'a> {
     /// Tell which rules are broken.
     Rules(QuestionArgs<'a>, RuleArgs<'a>, FormatArgs<'a>),
     /// List the headers and directives that bring most, at most so many of each.
-    Cost(QuestionArgs<'a>, Option<&'a str>),
+    Cost(QuestionArgs<'a>, Option<&'a str>, FormatArgs<'a>),
     /// Find the fewest include directives to remove so that a source no longer includes a header.
     Cut(QuestionArgs<'a>, LimitArgs<'a>, FormArgs<'a>),
     /// Check this certificate of such a cut.
@@ -98,6 +98,8 @@ pub struct RuleArgs<'a> {
     pub file: Option<&'a str>,
     /// Those that are words themselves.
     pub rules: Vec<&'a str>,
+    /// The file that lists directives that may still break them; `-` is standard input.
+    pub baseline: Option<&'a str>,
 }
 
 /// The words of what limits a cut.

@@ -15,8 +15,7 @@ use Rattle.inc_report.specs.declared.named.Format.{Format}
 use Rattle.inc_report.specs.declared.named.Format.TheVariants.{Gcc, Json, Dot}
 use Rattle.inc_report.specs.declared.scan.ScanForm.{ScanForm}
 use Rattle.inc_report.specs.declared.scan.ScanForm.TheVariants as form
-use Rattle.inc_rules.specs.Rules.{Rule}
-use Rattle.inc_inputs.specs.RuleLists.{rule_name, rules_given}
+use Rattle.inc_inputs.specs.RuleLists.{Ruled, rule_name, rules_given}
 use Rattle.inc_cli.specs.Commands.{Blank, Check, Command, Cost, Cut, Graph, Named, Patch, Rules, Who, Why, bounded}
 use Rattle.inc_cli.specs.Languages.{language_of}
 use Rattle.inc_cli.specs.Notes.{notes_if}
@@ -98,16 +97,16 @@ form_of is_terminal f =
 abbrev pub who_of : (is_terminal : Bool) → args.Question → args.Format → Result Command Report
 who_of is_terminal q f = if are_ends q then formatted is_terminal f (Who f.is_all f.fails None) asked.Who else Err no_headers
 
--- what includes cost: the first 20 headers and directives where no number is given
-abbrev pub cost_by : Option ℕ → Result Command Report
-cost_by None = Err no_top
-cost_by (Some n) = Ok (Cost n)
+-- how many headers and directives are printed of what includes cost: the first 20 where no number is given
+abbrev pub top_in : Option ℕ → Result ℕ Report
+top_in None = Err no_top
+top_in (Some n) = Ok n
 
-abbrev pub cost_of : (top : Option (List ℕ)) → Result Command Report
-cost_of None = Ok (Cost 20)
-cost_of (Some word) = cost_by (number_in word)
+abbrev pub top_by : (word : Option (List ℕ)) → Result ℕ Report
+top_by None = Ok 20
+top_by (Some word) = top_in (number_in word)
 
--- the format of this name in which rules are printed: text, or with directives as they are written
+-- the format of this name in which rules and costs are printed: text, or with directives as they are written
 abbrev pub some_format : Option Format → Result (Option Format) Report
 some_format None = Err no_format
 some_format (Some format) = Ok (Some format)
@@ -117,9 +116,21 @@ rules_format is_terminal name =
     let word : List ℕ = unwrap_or name (default_format is_terminal) in
     if bytes_eq word (codes "text") then Ok None else some_format (format_named word)
 
--- once it is known, and the rules are
-abbrev pub IsRuledBy : {S T : Type 0} → Gives S → Opens S T → Language → args.Question → args.Limits → (name : List ℕ) → (format : Option Format) → Following S (List Rule)
-IsRuledBy gives o language q l name format rules = IsAskedBy Content gives o language (Rules format (record { name = name; rules = rules })) q l
+-- what includes cost, in a format and so much of it
+abbrev pub costs_in : (top : ℕ) → Result (Option Format) Report → Result Command Report
+costs_in top (Err report) = Err report
+costs_in top (Ok format) = Ok (Cost format top)
+
+abbrev pub cost_by : Result ℕ Report → Result (Option Format) Report → Result Command Report
+cost_by (Err report) format = Err report
+cost_by (Ok top) format = costs_in top format
+
+abbrev pub cost_of : (is_terminal : Bool) → (name top : Option (List ℕ)) → Result Command Report
+cost_of is_terminal name top = cost_by (top_by top) (rules_format is_terminal name)
+
+-- once it is known, and the rules and what may still break them are
+abbrev pub IsRuledBy : {S T : Type 0} → Gives S → Opens S T → Language → args.Question → args.Limits → (name : List ℕ) → (format : Option Format) → Following S Ruled
+IsRuledBy gives o language q l name format r = IsAskedBy Content gives o language (Rules format (record { name = name; rules = r.rules }) r.baseline) q l
 
 -- what words ask for is answered
 abbrev pub IsAnswerTo : {S T : Type 0} → Gives S → Puts S → Opens S T → Language → (is_terminal : Bool) → args.Asked → (old : S) → Output → Result Answer Report → Type 0
@@ -133,8 +144,8 @@ IsAnswerTo gives puts o language is_terminal (args.Graph q f) old out answer =
     Follows (λ command. IsAskedBy Content gives o language command q no_limits) (formatted is_terminal f Graph asked.Graph) old out answer
 IsAnswerTo gives puts o language is_terminal (args.Rules q w f) old out answer =
     Follows (λ format. IsRun (rules_given gives w) (IsRuledBy gives o language q no_limits (rule_name w) format)) (rules_format is_terminal f.name) old out answer
-IsAnswerTo gives puts o language is_terminal (args.Cost q top) old out answer =
-    Follows (λ command. IsAskedBy Content gives o language command q no_limits) (cost_of top) old out answer
+IsAnswerTo gives puts o language is_terminal (args.Cost q top f) old out answer =
+    Follows (λ command. IsAskedBy Content gives o language command q no_limits) (cost_of is_terminal f.name top) old out answer
 IsAnswerTo gives puts o language is_terminal (args.Cut q l f) old out answer =
     Follows (λ command. IsAskedBy Content gives o language command q l) (form_of is_terminal f) old out answer
 IsAnswerTo gives puts o language is_terminal (args.Check q l name) old out answer = IsAskedBy Content gives o language (Check name) q l old out answer

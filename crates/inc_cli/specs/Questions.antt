@@ -25,7 +25,7 @@ use Rattle.inc_inputs.specs.Inputs.{Gives, listed}
 use Rattle.inc_inputs.specs.declared.failures.Hindrance.{Hindrance}
 use Rattle.inc_inputs.specs.Reports.{Report}
 use Rattle.inc_inputs.specs.Steps.{Step}
-use Rattle.inc_cli.specs.Commands.{Command, Why, Who, Graph, Cut, Blank, Patch, Named, Rules, Cost, Check, certificate_of, details_of, rules_form}
+use Rattle.inc_cli.specs.Commands.{Command, Why, Who, Graph, Cut, Blank, Patch, Named, Rules, Cost, Check, certificate_of, cost_form, details_of, rules_form}
 use Rattle.inc_cli.specs.Outputs.{Answer, IsRun, Output, ended}
 use Rattle.inc_cli.specs.Runs.{Asked}
 
@@ -50,10 +50,11 @@ IsPrinted gives o Graph a old new p = OfFiles gives a old new (IsGraphBy a.quest
 IsPrinted gives o Cut a old new p = OfFiles gives a old new (IsCutBy a.question a.limits p)
 IsPrinted gives o Blank a old new p = OfFiles gives a old new (IsBlankBy a.question a.limits p)
 IsPrinted gives o Patch a old new p = OfFiles gives a old new (IsPatchBy a.question a.limits p)
-IsPrinted gives o (Named form) a old new p = OfFiles gives a old new (IsNamedBy form a.question (details_of (Named form) a.limits) p)
-IsPrinted gives o (Rules None list) a old new p = OfFiles gives a old new (IsRulesBy list.rules a.question p)
-IsPrinted gives o (Rules (Some format) list) a old new p = OfFiles gives a old new (IsNamedBy (rules_form format) a.question (details_of (Rules (Some format) list) a.limits) p)
-IsPrinted gives o (Cost top) a old new p = OfFiles gives a old new (IsCostBy top a.question p)
+IsPrinted gives o (Named form) a old new p = OfFiles gives a old new (IsNamedBy form a.question (details_of (Named form) a.limits a.groups) p)
+IsPrinted gives o (Rules None list b) a old new p = OfFiles gives a old new (IsRulesBy list.rules a.question p)
+IsPrinted gives o (Rules (Some format) list b) a old new p = OfFiles gives a old new (IsNamedBy (rules_form format) a.question (details_of (Rules (Some format) list b) a.limits a.groups) p)
+IsPrinted gives o (Cost None top) a old new p = OfFiles gives a old new (IsCostBy top a.groups a.question p)
+IsPrinted gives o (Cost (Some format) top) a old new p = OfFiles gives a old new (IsNamedBy (cost_form format) a.question (details_of (Cost (Some format) top) a.limits a.groups) p)
 IsPrinted gives o (Check name) a old new p =
     OfCertificate o old name (λ text. OfFiles gives a old new (IsCheckBy a.question a.limits text p))
 
@@ -66,9 +67,9 @@ IsPromised gives o Graph a old new p = Unit {0}
 IsPromised gives o Cut a old new p = OfFiles gives a old new (λ given listing. CutHeadline a.question a.limits p listing)
 IsPromised gives o Blank a old new p = OfFiles gives a old new (λ given listing. BlankHeadline a.question a.limits p listing)
 IsPromised gives o Patch a old new p = OfFiles gives a old new (λ given listing. PatchHeadline a.question a.limits p listing)
-IsPromised gives o (Named form) a old new p = OfFiles gives a old new (λ given listing. NamedHeadline form a.question (details_of (Named form) a.limits) p listing)
-IsPromised gives o (Rules format list) a old new p = Unit {0}
-IsPromised gives o (Cost top) a old new p = Unit {0}
+IsPromised gives o (Named form) a old new p = OfFiles gives a old new (λ given listing. NamedHeadline form a.question (details_of (Named form) a.limits a.groups) p listing)
+IsPromised gives o (Rules format list b) a old new p = Unit {0}
+IsPromised gives o (Cost format top) a old new p = Unit {0}
 IsPromised gives o (Check name) a old new p =
     OfCertificate o old name (λ text. OfFiles gives a old new (λ given listing. CheckHeadline a.question a.limits text p listing))
 

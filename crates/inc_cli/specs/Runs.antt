@@ -5,8 +5,11 @@ use Rattle.inc_lookup.specs.IncludePath.{NamedPath}
 use Rattle.inc_lookup.specs.Projects.{Layout, SearchPath}
 use Rattle.inc_report.specs.Terms as report
 use Rattle.inc_args.specs.Meaning.{FileWords, Limits, Question}
-use Rattle.inc_graph.specs.Marks.{Cost, Mark}
-use Rattle.inc_inputs.specs.Ends.{EndPaths, are_ends, asked_ends}
+use Rattle.inc_graph.specs.Marks.{Cost as EdgeCost, Mark}
+use Rattle.inc_cost.specs.Costs.{Group}
+use Rattle.inc_inputs.specs.Baselines.{accepted}
+use Rattle.inc_inputs.specs.BothNotes.{end_notes}
+use Rattle.inc_inputs.specs.Ends.{EndPaths, are_ends, asked_ends, grouped_ends}
 use Rattle.inc_inputs.specs.IncludePath.{include_path}
 use Rattle.inc_inputs.specs.Inputs.{Gives}
 use Rattle.inc_inputs.specs.ListNotes.{named_layout}
@@ -22,9 +25,9 @@ use Rattle.inc_inputs.specs.BuildPlaces.{include_paths_of, read_with}
 use Rattle.inc_inputs.specs.BuildSteps.{found_if}
 use Rattle.inc_inputs.specs.HeaderNames.{header_notes}
 use Rattle.inc_inputs.specs.ExternalNames.{named_report}
-use Rattle.inc_inputs.specs.RuleLists.{rule_ends}
+use Rattle.inc_inputs.specs.RuleNotes.{rule_notes, strict_ends}
 use Rattle.inc_inputs.specs.declared.texts.Firsts.{Firsts}
-use Rattle.inc_cli.specs.Commands.{Command, Rules, certificate_of, has_headers, headers_of, rules_name}
+use Rattle.inc_cli.specs.Commands.{Command, Cost, Rules, baseline_of, certificate_of, has_headers, headers_of, rules_name}
 
 -- what a question about a project is asked of
 pub record Asked : Type 0 where
@@ -33,18 +36,22 @@ pub record Asked : Type 0 where
   pub layout : Layout
   pub question : report.Question
   pub limits : report.Limits
+  -- the groups of headers of which it is told what they cost
+  pub groups : List Group
   -- what is noted of a build, of the words and lists, and of the words for headers
   pub notes : List ℕ
 
--- between which files a command is asked: where it is about rules, from those that these are about
+-- between which files a command is asked: where it is about rules, from those that these are about, and where about costs, to groups
 abbrev pub ends_for : Command → Layout → Question → Result EndPaths Report
-ends_for (Rules format list) layout q = rule_ends layout list.rules
+ends_for (Rules format list b) layout q = strict_ends q.is_strict list.name layout list.rules
+ends_for (Cost format top) layout q = grouped_ends layout q
 ends_for command layout q = asked_ends layout q
 
 -- what is noted of the words that name them
 abbrev pub notes_for : Command → Layout → Question → List ℕ
-notes_for (Rules format list) layout q = []
-notes_for command layout q = header_notes layout q
+notes_for (Rules format list b) layout q = rule_notes list.name layout list.rules
+notes_for (Cost format top) layout q = header_notes layout q
+notes_for command layout q = end_notes layout q
 
 -- the words of a question name no sources and headers, or no directives, for this reason
 abbrev pub IsUnplaced : Command → Layout → Question → Limits → (without fixed : List Mark) → Report → Type 0
@@ -55,7 +62,7 @@ IsUnplaced command layout q l without fixed r =
 pub record Opened : Type 0 where
   -- the paths of the files as they are written
   pub paths : List (List ℕ)
-  pub costs : List Cost
+  pub costs : List EdgeCost
   -- the names that no build defines
   pub undefined : List (List ℕ)
   -- whether a header that is not found is refused, and the globs of those that are not
@@ -90,11 +97,12 @@ asked_for language command o layout b ends places notes = record {
     external = o.external;
   };
   limits = record { fixed = places.fixed; kept = places.kept; costs = o.costs };
+  groups = ends.groups;
   notes = notes;
 }
 
 -- what the texts hold, once the costs are known
-abbrev pub opened_by : Question → Texts → List Cost → Opened
+abbrev pub opened_by : Question → Texts → List EdgeCost → Opened
 opened_by q texts costs = record {
   paths = paths_in q.files texts.list;
   costs = costs;
@@ -124,10 +132,16 @@ asked_marked language command q l without fixed o layout b =
 abbrev pub listed_by : Language → Opened → Layout → Listed
 listed_by language o layout = record { layout = layout; written = o.paths; language = language }
 
+-- once all marks are known but those of a baseline
+abbrev pub asked_beside : {S : Type 0} → Gives S → Language → Command → Question → Limits → (without fixed : List Mark) → Opened → Layout → Built → Step S Asked
+asked_beside gives language command q l without fixed o layout b =
+    then (accepted gives (listed_by language o layout) (baseline_of command) without b.notes) (λ a.
+    asked_marked language command q l a.without fixed o layout (record { others = b.others; read_with = b.read_with; notes = a.notes }))
+
 -- once what a build adds is known; the words for places read files of the project
 abbrev pub asked_built : {S : Type 0} → Gives S → Language → Command → Question → Limits → (without fixed : List Mark) → Opened → Layout → Built → Step S Asked
 asked_built gives language command q l without fixed o layout b =
-    then (named_places gives (listed_by language o layout) q l without fixed) (λ m. asked_marked language command q l m.without m.fixed o layout b)
+    then (named_places gives (listed_by language o layout) q l without fixed) (λ m. asked_beside gives language command q l m.without m.fixed o layout b)
 
 -- once the project stands, of whose build this is added
 abbrev pub asked_listed : {S : Type 0} → Gives S → Language → Command → Question → Limits → Added → (without fixed : List Mark) → Opened → Layout → Step S Asked
@@ -145,9 +159,9 @@ asked_by gives language command q l a texts =
     then (judged (AreCosts (unwrap_or l.costs []) texts.costs)) (λ costs.
     asked_opened gives language command q l a texts.without texts.fixed (opened_by q texts costs))
 
--- the words that name what is read for a question, with that of a certificate and that of rules
+-- the words that name what is read for a question, with those of a certificate, of rules and of a baseline
 abbrev pub list_names : Command → Question → Limits → List (Option (List ℕ))
-list_names command q l = q.files.list ∷ q.without ∷ l.fixed ∷ l.costs ∷ certificate_of command ∷ rules_name command ∷ []
+list_names command q l = q.files.list ∷ q.without ∷ l.fixed ∷ l.costs ∷ certificate_of command ∷ rules_name command ∷ (baseline_of command).name ∷ []
 
 -- of the project that a build names, with its words in place of those of the question
 abbrev pub asked_found : {S : Type 0} → Gives S → Language → Command → Question → Limits → Found → Step S Asked

@@ -1,11 +1,12 @@
 -- What functions of the program give, as the definitions see it.
 use Rattle.std.specs.Prelude.{ℕ, Bool, List, Option, Result, map}
+use Rattle.inc_cost.specs.Costs.{Group}
 use Rattle.inc_lookup.specs.Projects.{Layout}
 use Rattle.inc_report.specs.RuleViews.{seen_list}
 use Rattle.inc_report.specs.Terms.{Question, Limits, PpQuestion}
 use Rattle.inc_report.specs.declared.outcome.End.{End}
 use Rattle.inc_inputs.specs.Reports.{Report}
-use Rattle.inc_inputs.specs.Views.{seen}
+use Rattle.inc_inputs.specs.Views.{baseline_in, seen}
 use Rattle.inc_inputs.specs.declared.failures.Failure.{Failure}
 use Rattle.inc_cli.specs.Commands as commands
 use Rattle.inc_cli.specs.Outputs.{Answer, Output}
@@ -32,14 +33,14 @@ seen_command command.Cut = commands.Cut
 seen_command command.Blank = commands.Blank
 seen_command command.Patch = commands.Patch
 seen_command (command.Named form) = commands.Named form
-seen_command (command.Rules format list) = commands.Rules format (seen_list list)
-seen_command (command.Cost top) = commands.Cost top
+seen_command (command.Rules format list b) = commands.Rules format (seen_list list) (baseline_in b)
+seen_command (command.Cost format top) = commands.Cost format top
 seen_command (command.Check name) = commands.Check name.now
 
--- what is asked of files with these paths, beside these notes
-abbrev pub asked_in : (paths : List (List ℕ)) → Layout → Question → Limits → (notes : List ℕ) → Asked
-asked_in paths layout question limits notes =
-    record { paths = paths; layout = layout; question = question; limits = limits; notes = notes }
+-- what is asked of files with these paths, and of groups of headers, beside these notes
+abbrev pub asked_in : (paths : List (List ℕ)) → Layout → Question → Limits → (groups : List Group) → (notes : List ℕ) → Asked
+asked_in paths layout question limits groups notes =
+    record { paths = paths; layout = layout; question = question; limits = limits; groups = groups; notes = notes }
 
 abbrev pub opened_in : Opened → runs.Opened
 opened_in o = record {

@@ -3,40 +3,44 @@ ghost use Rattle.std.specs.Prelude.{◌≡◌, ◌≢◌, ◌&&◌, ◌++◌, no
 ghost use Rattle.inc_args.specs.Views.{seen_limits, seen_question};
 ghost use Rattle.inc_inputs.specs.Ends.{are_ends};
 ghost use Rattle.inc_inputs.specs.Inputs.{listed};
-ghost use Rattle.inc_cli.specs.Commands.{bounded, certificate_of, has_headers, headers_of, rules_form, rules_name};
+ghost use Rattle.inc_cli.specs.Commands.{baseline_of, bounded, certificate_of, cost_form, details_of, has_headers, headers_of, rules_form, rules_name, rules_of, top_of};
 ghost use Rattle.inc_cli.specs.Outputs.{ended};
 ghost use Rattle.inc_cli.specs.Questions.{IsAnswered, IsAsked, IsKnown, Known, Prints};
 ghost use Rattle.inc_inputs.specs.Reports.{out_of_memory, report_of};
-ghost use Rattle.inc_cli.specs.Runs.{IsUnplaced, asked_built, asked_by, asked_for, asked_found, asked_listed, asked_marked, asked_named, asked_of, built_by, ends_for, listed_by, notes_for};
+ghost use Rattle.inc_cli.specs.Runs.{IsUnplaced, asked_beside, asked_built, asked_by, asked_for, asked_found, asked_listed, asked_marked, asked_named, asked_of, built_by, ends_for, listed_by, notes_for};
 ghost use Rattle.inc_inputs.specs.BuildPlaces.{include_paths_of};
 ghost use Rattle.inc_inputs.specs.Places.{places_of};
 ghost use Rattle.inc_inputs.specs.QuestionNotes.{question_notes};
 ghost use Rattle.inc_inputs.specs.ProjectLists.{paths_in};
 ghost use Rattle.inc_inputs.specs.IncludePath.{include_path};
+ghost use Rattle.inc_inputs.specs.Baselines.{accepted};
 ghost use Rattle.inc_inputs.specs.NamedPlaces.{named_places};
 ghost use Rattle.inc_inputs.specs.Steps.{Comes, next_of};
 ghost use Rattle.inc_inputs.specs.Texts.{AreCosts};
-ghost use Rattle.inc_inputs.specs.Views.{added_in, end_paths_in, places_in, project_in, seen_ends, seen_marked, seen_texts};
+ghost use Rattle.inc_inputs.specs.Views.{added_in, baseline_in, end_paths_in, places_in, project_in, seen_accepted, seen_ends, seen_marked, seen_texts};
 ghost use Rattle.inc_cli.specs.Views.{asked_in, built_in, opened_in, output_of, seen_command, seen_end};
 ghost use Rattle.inc_report.specs.Questions.{FailsAt};
+ghost use Rattle.inc_report.specs.RuleViews.{seen_list};
 ghost use Rattle.inc_report.specs.Writing.{is_of_certificate};
 
 use crate::answers::Answer;
 use crate::reports::run_failure;
 use crate::runs::Setup;
 use inc_args::{LimitArgs, QuestionArgs};
-use inc_graph::Cost;
+use inc_cost::Group;
+use inc_graph::{Cost, Mark};
 use inc_inputs::{
-    Added, BuildProject, EndPaths, Failure, Firsts, Hindrance, Inputs, Listed, ListedFiles, Marked,
-    Places, Texts, are_ends, are_twice, asked_ends, asked_places, bytes_of_words, costs_of,
-    find_question, include_path, list_paths, named_failure, named_places, named_project,
-    other_paths, path_end_in, read_texts, read_texts_beside, read_with, rule_ends,
-    with_question_notes,
+    Accepted, Added, Baseline, BuildProject, EndPaths, Failure, Firsts, Hindrance, Inputs, Listed,
+    ListedFiles, Marked, Places, Texts, accepted_places, are_ends, are_twice, asked_ends,
+    asked_places, bytes_of_words, costs_of, find_question, grouped_ends, include_path, list_paths,
+    named_failure, named_places, named_project, other_paths, path_end_in, read_texts,
+    read_texts_beside, read_with, strict_ends, with_question_notes,
 };
 use inc_lookup::{IncludePath, NamedPath, Project};
 use inc_report::{
-    Asked, Details, End, Format, Limits, NamedForm, Question, RuleList, RunFault, run_blank,
-    run_check, run_cost, run_cut, run_graph, run_named, run_patch, run_rules, run_who, run_why,
+    Asked, CostWords, Details, End, Format, Limits, NamedForm, Question, RuleList, RunFault,
+    run_blank, run_check, run_cost, run_cut, run_graph, run_named, run_patch, run_rules, run_who,
+    run_why,
 };
 use inc_text::ByteSink;
 use std::alloc::{AllocError, Global};
@@ -60,10 +64,10 @@ pub(crate) enum Command<'a> {
     Patch,
     /// Why the sources include the headers, which edges they reach, or which directives to remove, with directives as they are written.
     Named(NamedForm),
-    /// Which of these rules are broken, as text or with directives as they are written.
-    Rules(Option<Format>, RuleList<'a>),
-    /// What includes cost the sources: at most so many headers, and as many directives.
-    Cost(usize),
+    /// Which of these rules are broken without the directives of a baseline, as text or with directives as they are written.
+    Rules(Option<Format>, RuleList<'a>, Baseline<'a>),
+    /// What includes cost the sources, as text or with directives as they are written: at most so many headers, and as many directives.
+    Cost(Option<Format>, usize),
     /// Whether the certificate that this word names shows a smallest cut.
     Check(&'a str),
 }
@@ -90,14 +94,51 @@ impl<'a> Command<'a> {
         }
     }
 
+    /// The rules that it is about; none where it is not about rules.
+    fn rules(self) -> RuleList<'a>
+        ensures { seen_list result ≡ rules_of (seen_command self.entry) }
+    {
+        match self {
+            Command::Rules(_, list, _) => list,
+            _ => RuleList::none(),
+        }
+    }
+
+    /// How much is printed of costs; nothing where it is not about these.
+    fn top(self) -> usize
+        ensures { result ≡ top_of (seen_command self.entry) }
+    {
+        match self {
+            Command::Cost(_, top) => top,
+            _ => 0,
+        }
+    }
+
     /// What their list is called.
     fn rules_name(self) -> Option<&'a str>
         ensures { option_map (λ n. n.now) result ≡ rules_name (seen_command self.entry) }
     {
         match self {
-            Command::Rules(_, list) => Some(list.name),
+            Command::Rules(_, list, _) => Some(list.name),
             _ => None,
         }
+    }
+
+    /// The directives that may still break them.
+    fn baseline(self) -> Baseline<'a>
+        ensures { baseline_in result ≡ baseline_of (seen_command self.entry) }
+    {
+        match self {
+            Command::Rules(_, _, baseline) => baseline,
+            _ => Baseline::none(),
+        }
+    }
+
+    /// The word that names these.
+    fn baseline_name(self) -> Option<&'a str>
+        ensures { option_map (λ n. n.now) result ≡ (baseline_of (seen_command self.entry)).name }
+    {
+        self.baseline().name
     }
 
     /// Whether it is about headers, too.
@@ -105,7 +146,7 @@ impl<'a> Command<'a> {
         ensures { result ≡ has_headers (seen_command self.entry) }
     {
         match self {
-            Command::Graph | Command::Rules(..) | Command::Cost(_) => false,
+            Command::Graph | Command::Rules(..) | Command::Cost(..) => false,
             Command::Named(form) => form.asked.has_headers(),
             _ => true,
         }
@@ -205,6 +246,7 @@ fn ask_named<I: Inputs, O: ByteSink>(
         asking.limits.costs,
         asking.command.certificate(),
         asking.command.rules_name(),
+        asking.command.baseline_name(),
     ];
     if are_twice(&names) {
         return (Err(Failure::InputTwice), out);
@@ -455,7 +497,47 @@ fn ask_built<'p, I: Inputs, O: ByteSink>(
 {
     let mut inputs = inputs;
     match named_marks(setup, asking, opened, project, marks, &mut inputs) {
-        Ok(marks) => ask_marked(setup, asking, opened, project, marks, built, inputs, out),
+        Ok(marks) => ask_beside(setup, asking, opened, project, marks, built, inputs, out),
+        Err(failure) => (Err(failure), out),
+    }
+}
+
+/// The same where all marks are known but those of a baseline.
+fn ask_beside<'p, I: Inputs, O: ByteSink>(
+    setup: &Setup<'_>,
+    asking: Asking<'p>,
+    opened: &'p Opened<'p>,
+    project: &'p Project<'p>,
+    marks: Marked,
+    built: Built,
+    inputs: I,
+    out: O,
+) -> (Result<Answer, Failure>, O)
+    requires { O.has_failed out ≡ false }
+    ensures { (known : Known) → seen_end result.0 ≢ Err out_of_memory →
+        IsAsked I.gives (record { opens = I.opens; left = I.Stream.left }) (seen_command asking.entry.command)
+        (asked_beside I.gives setup.now.language (seen_command asking.entry.command) (seen_question asking.entry.question.now) (seen_limits asking.entry.limits.now)
+        marks.without.items marks.fixed.items (opened_in opened.entry.now) project.entry.now (built_in built))
+        known inputs (output_of (O.written out) (O.written result.1) (O.has_failed result.1)) (seen_end result.0) }
+{
+    let mut inputs = inputs;
+    let Marked { without, fixed } = marks;
+    let Built {
+        others,
+        read_with,
+        notes,
+    } = built;
+    match accepted_marks(setup, asking, opened, project, without, notes, &mut inputs) {
+        Ok(accepted) => {
+            let Accepted { without, notes } = accepted;
+            let marks = Marked { without, fixed };
+            let built = Built {
+                others,
+                read_with,
+                notes,
+            };
+            ask_marked(setup, asking, opened, project, marks, built, inputs, out)
+        }
         Err(failure) => (Err(failure), out),
     }
 }
@@ -521,6 +603,30 @@ fn named_marks<'p, I: Inputs>(
     )
 }
 
+/// Directives that are taken as removed, and those of a baseline; and notes, with those of the baseline.
+fn accepted_marks<'p, I: Inputs>(
+    setup: &Setup<'_>,
+    asking: Asking<'p>,
+    opened: &'p Opened<'p>,
+    project: &'p Project<'p>,
+    without: Vec<Mark>,
+    notes: Vec<u8>,
+    inputs: &mut I,
+) -> Result<Accepted, Failure>
+    ensures { Comes (accepted I.gives (listed_by setup.now.language (opened_in opened.entry.now) project.entry.now) (baseline_of (seen_command asking.entry.command))
+        without.items notes.items) inputs.old (seen_accepted result) inputs.new }
+{
+    let language = setup.language;
+    let written = opened.paths.as_slice();
+    let listed = Listed {
+        project,
+        written,
+        language,
+    };
+    let baseline = asking.command.baseline();
+    accepted_places(setup.alloc, inputs, listed, baseline, without, notes)
+}
+
 /// Answers a question whose sources, headers and directives are known.
 fn ask_placed<'p, I: Inputs, O: ByteSink>(
     setup: &Setup<'_>,
@@ -566,13 +672,14 @@ fn ask_placed<'p, I: Inputs, O: ByteSink>(
         &asked,
         &limits,
         &opened.paths,
+        &placed.ends.groups,
         notes,
         inputs,
         out,
     )
 }
 
-/// Answers a question of a project whose files have these paths, beside these notes.
+/// Answers a question of a project whose files have these paths, and of groups of headers, beside these notes.
 fn answer_beside<I: Inputs, O: ByteSink>(
     setup: &Setup<'_>,
     command: Command<'_>,
@@ -580,6 +687,7 @@ fn answer_beside<I: Inputs, O: ByteSink>(
     question: &Question<'_>,
     limits: &Limits<'_>,
     paths: &[&[u8]],
+    groups: &[Group<'_>],
     notes: Vec<u8>,
     inputs: I,
     out: O,
@@ -588,11 +696,20 @@ fn answer_beside<I: Inputs, O: ByteSink>(
     ensures { (known : Known) → seen_end result.0 ≢ Err out_of_memory →
         let command = seen_command command.entry in
         IsAnswered I.gives (IsKnown known I.gives (record { opens = I.opens; left = I.Stream.left }) command) command
-        (asked_in (map (λ p. p.now) paths.now) project.now question.now limits.now notes.items)
+        (asked_in (map (λ p. p.now) paths.now) project.now question.now limits.now groups.now notes.items)
         inputs (output_of (O.written out) (O.written result.1) (O.has_failed result.1)) (seen_end result.0) }
 {
     let files = ListedFiles { inputs, paths };
-    let (ended, out) = answer(setup.alloc, command, project, question, limits, files, out);
+    let (ended, out) = answer(
+        setup.alloc,
+        command,
+        project,
+        question,
+        limits,
+        groups,
+        files,
+        out,
+    );
     let certificate = command.certificate().unwrap_or("");
     let hindrance = setup.hindrance.get();
     let told = end_of(setup.alloc, ended, notes, paths, certificate, hindrance);
@@ -654,7 +771,11 @@ fn ends_for<'p>(
     ensures notes { IfOk result (λ ends. ends.notes.items ≡ notes_for (seen_command command.entry) project.now (seen_question question.now)) }
 {
     match command {
-        Command::Rules(_, list) => rule_ends(alloc, project, list.rules),
+        Command::Rules(_, list, _) => {
+            let is_strict = question.is_strict;
+            strict_ends(alloc, project, is_strict, list.name, list.rules)
+        }
+        Command::Cost(..) => grouped_ends(alloc, project, question),
         _ => asked_ends(alloc, project, question),
     }
 }
@@ -703,13 +824,14 @@ fn answer<'l, I: Inputs, O: ByteSink>(
     project: &Project<'_>,
     question: &Question<'_>,
     limits: &'l Limits<'l>,
+    groups: &'l [Group<'l>],
     files: ListedFiles<'_, I>,
     out: O,
 ) -> (Result<End, RunFault>, O)
     requires { O.has_failed out ≡ false }
     ensures printed { (known : Known) (notes : List ℕ) → Prints
         (λ new p. IsKnown known I.gives (record { opens = I.opens; left = I.Stream.left }) (seen_command command.entry)
-        (asked_in (map (λ p. p.now) files.entry.paths.now) project.now question.now limits.now notes) files.entry.inputs new p)
+        (asked_in (map (λ p. p.now) files.entry.paths.now) project.now question.now limits.now groups.now notes) files.entry.inputs new p)
         (λ new. FailsAt (listed I.gives (map (λ p. p.now) files.entry.paths.now)) files.entry.inputs new project.now question.now)
         (output_of (O.written out) (O.written result.1) (O.has_failed result.1)) result.0 }
     ensures certificate { certificate_of (seen_command command.entry) ≡ None → IfErr result.0 (λ f. is_of_certificate f ≡ false) }
@@ -740,15 +862,14 @@ fn answer<'l, I: Inputs, O: ByteSink>(
             (ended, out)
         }
         Command::Named(form) => {
-            let rules = RuleList::none();
-            let details = Details { limits, rules };
+            let details = details_of(command, limits, groups);
             let (ended, _, out) = run_named(alloc, project, files, question, &details, form, out);
             (ended, out)
         }
-        Command::Rules(format, rules) => match format {
+        Command::Rules(format, rules, _) => match format {
             None => run_rules(alloc, project, &mut files, question, rules.rules, out),
             Some(format) => {
-                let details = Details { limits, rules };
+                let details = details_of(command, limits, groups);
                 let form = rules_form(format);
                 let (ended, _, out) = run_named(
                     alloc, project, files, question, &details, form, out,
@@ -756,10 +877,20 @@ fn answer<'l, I: Inputs, O: ByteSink>(
                 (ended, out)
             }
         },
-        Command::Cost(top) => {
-            let (ended, _, out) = run_cost(alloc, project, files, question, top, out);
-            (ended, out)
-        }
+        Command::Cost(format, top) => match format {
+            None => {
+                let (ended, _, out) = run_cost(alloc, project, files, question, top, groups, out);
+                (ended, out)
+            }
+            Some(format) => {
+                let details = details_of(command, limits, groups);
+                let form = cost_form(format);
+                let (ended, _, out) = run_named(
+                    alloc, project, files, question, &details, form, out,
+                );
+                (ended, out)
+            }
+        },
         Command::Check(name) => match files.inputs.open(alloc, name) {
             Ok(stream) => {
                 let mut stream = stream;
@@ -778,12 +909,44 @@ fn answer<'l, I: Inputs, O: ByteSink>(
     }
 }
 
+/// What the answer to a command goes by beside the graph.
+fn details_of<'d>(
+    command: Command<'d>,
+    limits: &'d Limits<'d>,
+    groups: &'d [Group<'d>],
+) -> Details<'d>
+    ensures { result ≡ details_of (seen_command command.entry) limits.entry.now groups.entry.now }
+{
+    let costs = CostWords {
+        most: command.top(),
+        groups,
+    };
+    Details {
+        limits,
+        rules: command.rules(),
+        costs,
+    }
+}
+
 /// Rules in a format.
 fn rules_form(format: Format) -> NamedForm
     ensures { result ≡ rules_form format }
 {
     NamedForm {
         asked: Asked::Rules,
+        format,
+        all: false,
+        fails: false,
+        most: None,
+    }
+}
+
+/// Costs in a format.
+fn cost_form(format: Format) -> NamedForm
+    ensures { result ≡ cost_form format }
+{
+    NamedForm {
+        asked: Asked::Cost,
         format,
         all: false,
         fails: false,

@@ -1,22 +1,26 @@
 //! Questions about rules.
-ghost use Rattle.std.specs.Prelude.{◌≡◌, ◌≢◌, Err, false};
+ghost use Rattle.std.specs.Prelude.{◌≡◌, ◌≢◌, Err, false, map};
 ghost use Rattle.inc_args.specs.Views.{seen_limits, seen_question, seen_rules};
 ghost use Rattle.inc_cli.specs.Outputs.{IsRun};
 ghost use Rattle.inc_cli.specs.Processes.{IsRuledBy};
 ghost use Rattle.inc_cli.specs.Views.{output_of, seen_end};
 ghost use Rattle.inc_inputs.specs.Reports.{out_of_memory};
-ghost use Rattle.inc_inputs.specs.RuleLists.{AreRules, rule_name, rules_given};
-ghost use Rattle.inc_inputs.specs.Steps.{judged};
+ghost use Rattle.inc_inputs.specs.RuleLists.{rule_name, rule_text, ruled, rules_by, rules_given};
+ghost use Rattle.inc_inputs.specs.Steps.{then};
+ghost use Rattle.inc_rules.specs.Views.{seen_rule};
 
 use crate::answers::Answer;
 use crate::questions::{Command, ask};
 use crate::runs::Setup;
 use inc_args::{LimitArgs, QuestionArgs, RuleArgs};
-use inc_inputs::{Failure, Inputs, read_rule_text, rule_name, rules_in};
+use inc_inputs::{
+    Baseline, Failure, Inputs, are_twice, read_baseline, read_rule_text, rule_name, rules_in,
+};
 use inc_report::{Format, RuleList};
+use inc_rules::Rule;
 use inc_text::ByteSink;
 
-/// Reads the rules that words give, and answers which are broken.
+/// Reads the rules that words give, and the directives that may still break them, and answers which are broken.
 pub(crate) fn ask_rules<I: Inputs, O: ByteSink>(
     setup: &Setup<'_>,
     format: Option<Format>,
@@ -33,37 +37,86 @@ pub(crate) fn ask_rules<I: Inputs, O: ByteSink>(
         (rule_name (seen_rules words.now)) format) inputs
         (output_of (O.written out) (O.written result.1) (O.has_failed result.1)) (seen_end result.0) }
 {
+    if are_twice(&[words.file, words.baseline]) {
+        return (Err(Failure::InputTwice), out);
+    }
+    ask_rules_once(setup, format, question, words, limits, inputs, out)
+}
+
+/// The same where standard input is named once at most.
+fn ask_rules_once<I: Inputs, O: ByteSink>(
+    setup: &Setup<'_>,
+    format: Option<Format>,
+    question: &QuestionArgs<'_>,
+    words: &RuleArgs<'_>,
+    limits: &LimitArgs<'_>,
+    inputs: I,
+    out: O,
+) -> (Result<Answer, Failure>, O)
+    requires { O.has_failed out ≡ false }
+    ensures { seen_end result.0 ≢ Err out_of_memory →
+        IsRun (then (rule_text I.gives (seen_rules words.now)) (λ text. rules_by I.gives (seen_rules words.now) text))
+        (IsRuledBy I.gives (record { opens = I.opens; left = I.Stream.left }) setup.now.language (seen_question question.now) (seen_limits limits.now)
+        (rule_name (seen_rules words.now)) format) inputs
+        (output_of (O.written out) (O.written result.1) (O.has_failed result.1)) (seen_end result.0) }
+{
     let mut inputs = inputs;
     match read_rule_text(setup.alloc, &mut inputs, words) {
-        Ok(text) => {
-            let name = rule_name(words);
-            ask_rules_of(setup, format, question, limits, name, &text, inputs, out)
-        }
+        Ok(text) => ask_rules_of(setup, format, question, words, limits, &text, inputs, out),
         Err(failure) => (Err(failure), out),
     }
 }
 
-/// The same of the text of a list with this name.
+/// The same of the text of their list.
 fn ask_rules_of<I: Inputs, O: ByteSink>(
     setup: &Setup<'_>,
     format: Option<Format>,
     question: &QuestionArgs<'_>,
+    words: &RuleArgs<'_>,
     limits: &LimitArgs<'_>,
-    name: &str,
     text: &[u8],
     inputs: I,
     out: O,
 ) -> (Result<Answer, Failure>, O)
     requires { O.has_failed out ≡ false }
     ensures { seen_end result.0 ≢ Err out_of_memory →
-        IsRun (judged (AreRules name.now text.now))
-        (IsRuledBy I.gives (record { opens = I.opens; left = I.Stream.left }) setup.now.language (seen_question question.now) (seen_limits limits.now) name.now format) inputs
+        IsRun (rules_by I.gives (seen_rules words.now) text.now)
+        (IsRuledBy I.gives (record { opens = I.opens; left = I.Stream.left }) setup.now.language (seen_question question.now) (seen_limits limits.now)
+        (rule_name (seen_rules words.now)) format) inputs
         (output_of (O.written out) (O.written result.1) (O.has_failed result.1)) (seen_end result.0) }
 {
-    match rules_in(setup.alloc, text, name) {
-        Ok(rules) => {
-            let rules = &rules;
-            let command = Command::Rules(format, RuleList { name, rules });
+    match rules_in(setup.alloc, text, rule_name(words)) {
+        Ok(rules) => ask_ruled(setup, format, question, words, limits, &rules, inputs, out),
+        Err(failure) => (Err(failure), out),
+    }
+}
+
+/// The same of rules.
+fn ask_ruled<I: Inputs, O: ByteSink>(
+    setup: &Setup<'_>,
+    format: Option<Format>,
+    question: &QuestionArgs<'_>,
+    words: &RuleArgs<'_>,
+    limits: &LimitArgs<'_>,
+    rules: &[Rule<'_>],
+    inputs: I,
+    out: O,
+) -> (Result<Answer, Failure>, O)
+    requires { O.has_failed out ≡ false }
+    ensures { seen_end result.0 ≢ Err out_of_memory →
+        IsRun (ruled I.gives (seen_rules words.now) (map seen_rule rules.now))
+        (IsRuledBy I.gives (record { opens = I.opens; left = I.Stream.left }) setup.now.language (seen_question question.now) (seen_limits limits.now)
+        (rule_name (seen_rules words.now)) format) inputs
+        (output_of (O.written out) (O.written result.1) (O.has_failed result.1)) (seen_end result.0) }
+{
+    let mut inputs = inputs;
+    match read_baseline(setup.alloc, &mut inputs, words.baseline) {
+        Ok(lines) => {
+            let lines = &lines;
+            let name = rule_name(words);
+            let list = RuleList { name, rules };
+            let name = words.baseline;
+            let command = Command::Rules(format, list, Baseline { name, lines });
             ask(setup, command, question, limits, inputs, out)
         }
         Err(failure) => (Err(failure), out),

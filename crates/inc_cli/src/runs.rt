@@ -5,7 +5,7 @@ ghost use Rattle.inc_args.specs.CompilerWords.{as_options};
 ghost use Rattle.inc_args.specs.Meaning.{meaning};
 ghost use Rattle.inc_args.specs.Views.{seen_arguments, seen_format, seen_forms, seen_languages, seen_question, seen_request};
 ghost use Rattle.inc_cli.specs.Languages.{language_of};
-ghost use Rattle.inc_cli.specs.Processes.{cost_of, default_format, form_of, format_named, formatted, in_format, most_of, of_files, rules_format, scan_form, who_of, IsAnswer, IsAnswerFrom, IsAnswerTo, IsPromise, IsPromiseFrom, IsPromiseOf, IsRefusedRun, IsTold, IsToldRun};
+ghost use Rattle.inc_cli.specs.Processes.{cost_of, default_format, form_of, format_named, formatted, in_format, most_of, of_files, rules_format, scan_form, top_by, who_of, IsAnswer, IsAnswerFrom, IsAnswerTo, IsPromise, IsPromiseFrom, IsPromiseOf, IsRefusedRun, IsTold, IsToldRun};
 ghost use Rattle.inc_inputs.specs.Reports.{out_of_memory};
 ghost use Rattle.inc_cli.specs.Views.{output_of, seen_command, seen_end};
 ghost use Rattle.inc_inputs.specs.Views.{seen};
@@ -256,7 +256,11 @@ fn answer_in<I: Inputs, O: ByteSink>(
                 Err(failure) => (Err(failure), out),
             }
         }
-        Request::Cost(question, top) => match cost_of(*top) {
+        Request::Cost(question, top, format) => match cost_of(
+            setup.is_terminal,
+            format.name,
+            *top,
+        ) {
             Ok(command) => ask(setup, command, question, &no_limits, inputs, out),
             Err(failure) => (Err(failure), out),
         },
@@ -294,20 +298,38 @@ fn who_of(
 /// How many headers and directives are printed of what includes cost, where no number is given.
 const TOP: usize = 20;
 
-/// What includes cost, of which this word says how much is printed.
-fn cost_of(top: Option<&str>) -> Result<Command<'static>, Failure>
-    ensures { seen seen_command result ≡ cost_of (option_map (λ w. w.now) top.entry) }
+/// What includes cost, in the format of this name, and as much as a word says.
+fn cost_of(
+    is_terminal: bool,
+    name: Option<&str>,
+    top: Option<&str>,
+) -> Result<Command<'static>, Failure>
+    ensures { seen seen_command result ≡ cost_of is_terminal (option_map (λ n. n.now) name.entry) (option_map (λ w. w.now) top.entry) }
 {
-    let Some(word) = top else {
-        return Ok(Command::Cost(TOP));
+    let top = match top_by(top) {
+        Ok(top) => top,
+        Err(failure) => return Err(failure),
+    };
+    match rules_format(is_terminal, name) {
+        Ok(format) => Ok(Command::Cost(format, top)),
+        Err(failure) => Err(failure),
+    }
+}
+
+/// How many headers and directives are printed of what includes cost.
+fn top_by(word: Option<&str>) -> Result<usize, Failure>
+    ensures { seen (λ top. top) result ≡ top_by (option_map (λ w. w.now) word.entry) }
+{
+    let Some(word) = word else {
+        return Ok(TOP);
     };
     match number_in(word.as_bytes()) {
-        Some(most) => Ok(Command::Cost(most as usize)),
+        Some(most) => Ok(most as usize),
         None => Err(Failure::NoTop),
     }
 }
 
-/// The format of this name in which rules are printed: none for text, or one in which directives stand as they are written. Where none is
+/// The format of this name in which rules and costs are printed: none for text, or one in which directives stand as they are written. Where none is
 /// named, it is that of a terminal, or text.
 fn rules_format(is_terminal: bool, name: Option<&str>) -> Result<Option<Format>, Failure>
     ensures { seen (λ format. format) result ≡ rules_format is_terminal (option_map (λ n. n.now) name.entry) }

@@ -1,5 +1,5 @@
 -- Costs go by the weights of files that are sources or that edges lead to, and by no others.
-use Rattle.std.proofs.Common.{◌≡◌, ◌∙◌, ℕ, ◌+◌, ◌<◌, true, List, [], ◌∷◌, Option, Some, length, map, refl, sym, ap, ap₂, subst, inl, inr, ◌⊎◌}
+use Rattle.std.proofs.Common.{◌≡◌, ◌∙◌, ℕ, ◌+◌, ◌<◌, Bool, true, List, [], ◌∷◌, Option, Some, length, map, refl, sym, ap, ap₂, subst, inl, inr, ◌⊎◌}
 use Rattle.std.specs.Prelude.{slice_get, slice_index, slice_index_or, sum_by, Contains}
 use Rattle.std.specs.Option.{option_map_or}
 use Rattle.std.proofs.lemmas.Bool.{and_parts, eqb-true}
@@ -9,7 +9,7 @@ use Rattle.inc_graph.specs.IncludeGraph.{Edge, Graph}
 use Rattle.inc_graph.proofs.ClosureWalks.{contains_head, contains_tail}
 use Rattle.inc_graph.proofs.Walks.{leaving_edge}
 use Rattle.inc_cost.specs.Costs as costs
-use Rattle.inc_cost.specs.Costs.{AreAllBrought, AreSaved, IsBrought, IsReachedWithout, IsSparing, IsSum, IsTotal, IsWeight, weight_of}
+use Rattle.inc_cost.specs.Costs.{AreAllBrought, AreSaved, IsBrought, IsKeptOut, IsReachedWithout, IsSparing, IsSum, IsTotal, IsWeight, weight_of}
 
 -- the file is one of the sources, or an edge leads to it
 abbrev pub IsMet : Graph → ℕ → Type 0
@@ -68,6 +68,17 @@ module _ (g : Graph) (weights others : List ℕ) (same : (file : ℕ) → IsMet 
         sum_of (IsSparing g weights (edge ∷ [])) (IsSparing g others (edge ∷ [])) (slice_index counts edge)
         (λ source m among s. (s.0, s.1, weight_same [] source s.0 among s.2, weight_same (edge ∷ []) source s.1 among s.3, s.4)) (h.counts_are edge low);
   }
+
+  pub kept_out_same : (group : List Bool) (bytes count : ℕ) → IsKeptOut g weights group bytes count → IsKeptOut g others group bytes count
+  kept_out_same group bytes count h =
+      let set = h.0 in
+      let s = h.2 in (
+        set,
+        h.1,
+        record { whole = s.whole; rest = s.rest; is_whole = total_same [] s.whole s.is_whole; is_rest = total_same set s.rest s.is_rest; sums = s.sums },
+        sum_of (IsSparing g weights set) (IsSparing g others set) count
+            (λ source m among s. (s.0, s.1, weight_same [] source s.0 among s.2, weight_same set source s.1 among s.3, s.4)) h.3,
+      )
 
   pub brought_same : (bytes counts : List ℕ) → AreAllBrought g weights g.sources bytes counts → AreAllBrought g others g.sources bytes counts
   brought_same bytes counts h = record {

@@ -85,6 +85,11 @@ pub record AreAllBrought (g : Graph) (weights sources : List ℕ) (bytes counts 
 
 ---- a group of files
 
+-- a group by paths that name its files, and what it is called
+pub record Group : Type 0 where
+  pub name : List ℕ
+  pub paths : List (List ℕ)
+
 -- the file is one of them
 abbrev pub is_among : (group : List Bool) → (file : ℕ) → Bool
 is_among group file = slice_index_or group file false

@@ -17,6 +17,6 @@ mod shares;
 mod totals;
 
 pub use costs::{Amounts, Costs};
-pub use groups::{GroupCost, group_cost};
+pub use groups::{Group, GroupCost, group_cost};
 pub use ranking::dearest;
 pub use totals::total;

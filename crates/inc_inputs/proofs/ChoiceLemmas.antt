@@ -18,7 +18,7 @@ fit_more g files glob n sources old new low is =
     ∙ ap (λ (k : ℕ). with_fitting g files glob k (drop (n + 1) sources) (with_fit g files glob n (get_or sources n []) old)) e
     ∙ ap (λ (ss : List (List ℕ)). with_fitting g files glob n ss old) (sym (drop_more sources n [] low))
 
-range_more : (a n : ℕ) → range_with_len a (suc n) ≡ range_with_len a n ++ (a + n) ∷ []
+pub range_more : (a n : ℕ) → range_with_len a (suc n) ≡ range_with_len a n ++ (a + n) ∷ []
 range_more a zero = let e : a ≡ a + 0 = omega arith in ap (λ (k : ℕ). k ∷ []) e
 range_more a (suc n) =
     let e : a + 1 + n ≡ a + suc n = omega arith in

@@ -1,3 +1,5 @@
+pub mod BaselineLemmas
+pub mod BothLemmas
 pub mod ChoiceLemmas
 pub mod ComingLemmas
 pub mod CommonLemmas
@@ -5,6 +7,7 @@ pub mod CountLemmas
 pub mod DefineLemmas
 pub mod EachLemmas
 pub mod EndLemmas
+pub mod GroupWords
 pub mod FrontLemmas
 pub mod GroundLemmas
 pub mod HeaderLemmas
@@ -21,6 +24,7 @@ pub mod PlaceMarks
 pub mod PrintedMarks
 pub mod ProjectLemmas
 pub mod RuleLines
+pub mod RuleNoteLemmas
 pub mod QuestionLemmas
 pub mod SourceLemmas
 pub mod StepLemmas

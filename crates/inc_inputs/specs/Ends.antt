@@ -1,9 +1,10 @@
 -- Between which files of a project a question is asked: a source and a header by a word for each, those that the words of --from and --to
--- stand for, or those of --from and a header by a word.
+-- stand for, or those of --from and a header by a word; or from which files, and to which groups of others.
 use Rattle.std.specs.Prelude.{ℕ, ◌==◌, ◌&&◌, not, Bool, false, List, [], ◌∷◌, ◌++◌, Option, Some, None, Result, Ok, Err, if◌then◌else◌, codes, filter, filter_map, length}
 use Rattle.std.specs.Option.{option_map_or}
 use Rattle.inc_lookup.specs.Projects.{Layout, found_as, path_at}
 use Rattle.inc_globs.specs.Globs.{Piece, fits, is_glob, pieces}
+use Rattle.inc_cost.specs.Costs.{Group}
 use Rattle.inc_graph.specs.Members.{is_member}
 use Rattle.inc_args.specs.Meaning.{Question}
 use Rattle.inc_inputs.specs.HeaderNames.{header_path}
@@ -84,15 +85,16 @@ apart layout sources headers = filter (λ p. not (is_path_of layout (named_files
 
 ---- both
 
--- the paths of sources and of headers
+-- the paths of sources and of headers, and groups of headers
 pub record EndPaths : Type 0 where
   pub from : List (List ℕ)
   pub to : List (List ℕ)
+  pub groups : List Group
 
 -- there must be a source
 abbrev pub some_ends : (from to : List (List ℕ)) → Result EndPaths Report
 some_ends [] to = Err no_source_left
-some_ends (p ∷ ps) to = Ok (record { from = p ∷ ps; to = to })
+some_ends (p ∷ ps) to = Ok (record { from = p ∷ ps; to = to; groups = [] })
 
 -- a file that both stand for is a header alone
 abbrev pub ends_by : Layout → (from to : Paths) → Result EndPaths Report
@@ -104,11 +106,46 @@ ends_by layout (Ok ss) (Ok ts) = some_ends (apart layout ss ts) ts
 abbrev pub ends_at : (from header : Paths) → Result EndPaths Report
 ends_at (Err r) header = Err r
 ends_at (Ok ss) (Err r) = Err r
-ends_at (Ok ss) (Ok ts) = Ok (record { from = ss; to = ts })
+ends_at (Ok ss) (Ok ts) = Ok (record { from = ss; to = ts; groups = [] })
 
 -- what the words of --from and --to stand for
 abbrev pub end_paths : Layout → (from to : List (List ℕ)) → Result EndPaths Report
 end_paths layout from to = ends_by layout (words_paths layout Source from) (words_paths layout Header to)
+
+---- groups of headers
+
+-- paths as a group that is called by a word, which must name some file
+abbrev pub some_group : (word : List ℕ) → (paths : List (List ℕ)) → (files : List ℕ) → Result Group Report
+some_group word paths [] = Err (fits_none (option_of Header) word)
+some_group word paths (f ∷ fs) = Ok (record { name = word; paths = paths })
+
+abbrev pub group_by : Layout → (word : List ℕ) → Paths → Result Group Report
+group_by layout word (Err r) = Err r
+group_by layout word (Ok ps) = some_group word ps (named_files layout ps)
+
+-- the group for which a word of --to stands
+abbrev pub group_of : Layout → (word : List ℕ) → Result Group Report
+group_of layout word = group_by layout word (word_paths layout Header word)
+
+-- a group before others, or the report of the first that there is
+abbrev pub group_before : Result Group Report → Result (List Group) Report → Result (List Group) Report
+group_before (Err r) rest = Err r
+group_before (Ok x) (Ok xs) = Ok (x ∷ xs)
+group_before (Ok x) (Err r) = Err r
+
+abbrev pub groups_of : Layout → (words : List (List ℕ)) → Result (List Group) Report
+groups_of layout [] = Ok []
+groups_of layout (w ∷ ws) = group_before (group_of layout w) (groups_of layout ws)
+
+-- sources and groups
+abbrev pub grouped : (from : Paths) → Result (List Group) Report → Result EndPaths Report
+grouped (Err r) groups = Err r
+grouped (Ok ss) (Err r) = Err r
+grouped (Ok ss) (Ok gs) = Ok (record { from = ss; to = []; groups = gs })
+
+-- those that the words of --from and --to stand for; a source stays one, whatever group has it
+abbrev pub grouped_ends : Layout → Question → Result EndPaths Report
+grouped_ends layout q = grouped (words_paths layout Source q.from) (groups_of layout q.to)
 
 ---- a question
 

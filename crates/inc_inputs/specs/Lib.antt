@@ -1,3 +1,5 @@
+pub mod Baselines
+pub mod BothNotes
 pub mod BuildFolders
 pub mod BuildMacros
 pub mod BuildNotes
@@ -26,6 +28,7 @@ pub mod QuestionNotes
 pub mod Questions
 pub mod Reports
 pub mod RuleLists
+pub mod RuleNotes
 pub mod Steps
 pub mod Texts
 pub mod UndefinedNames

@@ -154,6 +154,14 @@ no_rules = record { message = codes "name RULES, or give rules with -e"; status 
 abbrev pub malformed_rules : (name : List ℕ) → (line : ℕ) → Fault → Report
 malformed_rules name line f = record { message = shown name ++ codes ":" ++ decimal line ++ codes ": " ++ shown (fault_words f); status = 4 }
 
+-- of a rule with a glob that fits no file, by what is said of it
+abbrev pub unfit_rule : (line : List ℕ) → Report
+unfit_rule line = record { message = line; status = 4 }
+
+-- of a line of a baseline
+abbrev pub malformed_baseline : (name : List ℕ) → (line : ℕ) → Report
+malformed_baseline name line = record { message = shown name ++ codes ":" ++ decimal line ++ codes ": not PATH:NAME"; status = 4 }
+
 abbrev pub no_subject : Report
 no_subject = record { message = codes "no rule is about a file of the project"; status = 4 }
 
@@ -218,6 +226,11 @@ read_report read.NoMemory path = out_of_memory
 abbrev pub list_report : CertFault → (path : List ℕ) → Report
 list_report (list.Malformed line) path = malformed_list (decimal line ++ codes " of " ++ path)
 list_report list.NoMemory path = out_of_memory
+
+-- the same of a baseline
+abbrev pub baseline_report : CertFault → (name : List ℕ) → Report
+baseline_report (list.Malformed line) name = malformed_baseline name line
+baseline_report list.NoMemory name = out_of_memory
 
 -- the same of what describes a compiler
 abbrev pub compiler_report : CertFault → (path : List ℕ) → Report

@@ -1,13 +1,15 @@
--- The rules that words give, as a file of them or as the words themselves, and the files that they are about.
+-- The rules that words give, as a file of them or as the words themselves, what may still break them, and the files that they are about.
 use Rattle.std.specs.Prelude.{◌≡◌, ℕ, List, [], ◌∷◌, ◌++◌, Option, Some, None, Result, Ok, Err, codes, filter, flat_map, unwrap_or}
 use Rattle.std.specs.List.{list_any}
 use Rattle.inc_lookup.specs.Projects.{Layout}
 use Rattle.inc_rules.specs.Rules.{Fault, Rule, is_left, rules_of}
 use Rattle.inc_args.specs.Meaning.{RuleWords}
+use Rattle.inc_inputs.specs.Baselines.{Baseline, named_of}
 use Rattle.inc_inputs.specs.Ends.{EndPaths}
 use Rattle.inc_inputs.specs.Inputs.{Gives}
-use Rattle.inc_inputs.specs.Reports.{Report, malformed_rules, no_rules, no_subject}
+use Rattle.inc_inputs.specs.Reports.{Report, input_twice, malformed_rules, no_rules, no_subject}
 use Rattle.inc_inputs.specs.Steps.{Step, comes_to, judged, reads, then}
+use Rattle.inc_inputs.specs.Texts.{are_twice, unless}
 
 -- words as the lines of a text
 abbrev pub lines_of_words : List (List ℕ) → List ℕ
@@ -31,14 +33,28 @@ abbrev pub AreRules : (name text : List ℕ) → Result (List Rule) Report → T
 AreRules name text (Ok rules) = rules_of text ≡ Ok rules
 AreRules name text (Err r) = (line : ℕ) × (f : Fault) × (rules_of text ≡ Err (line, f)) × (r ≡ malformed_rules name line f)
 
--- the rules that words give
-abbrev pub rules_given : {S : Type 0} → Gives S → RuleWords → Step S (List Rule)
-rules_given gives w = then (rule_text gives w) (λ text. judged (AreRules (rule_name w) text))
+-- rules, and the directives that may still break them
+pub record Ruled : Type 0 where
+  pub rules : List Rule
+  pub baseline : Baseline
+
+-- once the rules are known
+abbrev pub ruled : {S : Type 0} → Gives S → RuleWords → List Rule → Step S Ruled
+ruled gives w rules =
+    then (named_of gives w.baseline) (λ lines. comes_to (Ok (record { rules = rules; baseline = record { name = w.baseline; lines = lines } })))
+
+-- once their text is
+abbrev pub rules_by : {S : Type 0} → Gives S → RuleWords → (text : List ℕ) → Step S Ruled
+rules_by gives w text = then (judged (AreRules (rule_name w) text)) (λ rules. ruled gives w rules)
+
+-- what words give
+abbrev pub rules_given : {S : Type 0} → Gives S → RuleWords → Step S Ruled
+rules_given gives w = unless (are_twice (w.file ∷ w.baseline ∷ [])) input_twice (then (rule_text gives w) (λ text. rules_by gives w text))
 
 -- a question about rules begins at the files that they are about, of which there must be one
 abbrev pub some_subjects : List (List ℕ) → Result EndPaths Report
 some_subjects [] = Err no_subject
-some_subjects (p ∷ ps) = Ok (record { from = p ∷ ps; to = [] })
+some_subjects (p ∷ ps) = Ok (record { from = p ∷ ps; to = []; groups = [] })
 
 abbrev pub rule_ends : Layout → List Rule → Result EndPaths Report
 rule_ends layout rules = some_subjects (filter (λ p. list_any (λ r. is_left r p) rules) layout.paths)

@@ -2,8 +2,10 @@
 use Rattle.std.specs.Prelude.{ℕ, Bool, List, Option, Result, Ok, Err, map, option_map}
 use Rattle.std.specs.Borrow.{Bor}
 use Rattle.std.specs.Global.{Vec}
+use Rattle.inc_cost.specs.Costs.{Group}
 use Rattle.inc_graph.specs.Marks.{Mark}
 use Rattle.inc_lookup.specs.Projects.{Layout, SearchPath}
+use Rattle.inc_inputs.specs.Baselines as baselines
 use Rattle.inc_inputs.specs.BuildNotes as notes
 use Rattle.inc_inputs.specs.BuildProjects.{Found, macro_word}
 use Rattle.inc_inputs.specs.BuildProjects as builds
@@ -18,6 +20,10 @@ use Rattle.inc_inputs.specs.Texts as texts
 use Rattle.serde_json.specs.View.{view}
 use Rattle.inc_build.specs.Views.{seen_build, seen_entry}
 use Rattle.inc_build.specs.declared.compiler_words.Kind.{Kind}
+use Rattle.inc_inputs.specs.declared.baselines.Accepted.{Accepted}
+use Rattle.inc_inputs.specs.declared.baselines.Accepting.{Accepting}
+use Rattle.inc_inputs.specs.declared.baselines.Baseline.{Baseline}
+use Rattle.inc_inputs.specs.declared.baselines.NamedLine.{NamedLine}
 use Rattle.inc_inputs.specs.declared.build_macros.MacroWord.{MacroWord}
 use Rattle.inc_inputs.specs.declared.build_grounds.Database.{Database}
 use Rattle.inc_inputs.specs.declared.build_grounds.Ground.{Ground}
@@ -81,6 +87,30 @@ marked_in m = record { without = m.without.items; fixed = m.fixed.items }
 abbrev pub seen_marked : Result Marked Failure → Result named.Marked Report
 seen_marked result = seen marked_in result
 
+abbrev pub notes_in : Notes → notes.Kept
+notes_in n = record { text = n.text.items; count = n.count }
+
+abbrev pub named_line_in : NamedLine → baselines.NamedLine
+named_line_in l = record { line = l.line; path = l.path.items; name = l.name.items }
+
+abbrev pub seen_named : Result (Vec NamedLine) Failure → Result (List baselines.NamedLine) Report
+seen_named result = seen (λ lines. map named_line_in lines.items) result
+
+abbrev pub baseline_in : Baseline → baselines.Baseline
+baseline_in b = record { name = option_map (λ n. n.now) b.name; lines = map named_line_in b.lines.now }
+
+abbrev pub accepting_in : Accepting → baselines.Accepting
+accepting_in a = record { marks = a.marks.items; notes = notes_in a.notes }
+
+abbrev pub seen_accepting : Result Accepting Failure → Result baselines.Accepting Report
+seen_accepting result = seen accepting_in result
+
+abbrev pub accepted_in : Accepted → baselines.Accepted
+accepted_in a = record { without = a.without.items; notes = a.notes.items }
+
+abbrev pub seen_accepted : Result Accepted Failure → Result baselines.Accepted Report
+seen_accepted result = seen accepted_in result
+
 -- a word of an entry for a macro
 abbrev pub macro_of : MacroWord → Kind × List ℕ
 macro_of m = macro_word m.defines m.text.items
@@ -107,9 +137,6 @@ seen_ground result = seen ground_in result
 -- files, or directories, by their paths
 abbrev pub seen_list : Result (List (List ℕ)) Failure → Result (List (List ℕ)) Report
 seen_list result = seen (λ paths. paths) result
-
-abbrev pub notes_in : Notes → notes.Kept
-notes_in n = record { text = n.text.items; count = n.count }
 
 abbrev pub words_in : BuildWords → builds.Words
 words_in w = record {
@@ -193,7 +220,14 @@ abbrev pub seen_pp_texts : Result PpTexts Failure → Result pp.PpTexts Report
 seen_pp_texts result = seen pp_texts_in result
 
 abbrev pub end_paths_in : EndPaths → ends.EndPaths
-end_paths_in e = record { from = map (λ p. p.now) e.from.items; to = map (λ p. p.now) e.to.items }
+end_paths_in e = record { from = map (λ p. p.now) e.from.items; to = map (λ p. p.now) e.to.items; groups = e.groups.items }
+
+-- groups
+abbrev pub seen_groups : Result (Vec Group) Failure → Result (List Group) Report
+seen_groups result = seen (λ groups. groups.items) result
+
+abbrev pub seen_group : Result Group Failure → Result Group Report
+seen_group result = seen (λ x. x) result
 
 abbrev pub seen_ends : Result EndPaths Failure → Result ends.EndPaths Report
 seen_ends result = seen end_paths_in result

@@ -364,7 +364,7 @@ fn absent_line(alloc: Global, count: usize) -> Result<Vec<u8>, AllocError>
 }
 
 /// Adds how many of something there are.
-fn put_counted(
+pub(crate) fn put_counted(
     text: &mut Vec<u8>,
     count: usize,
     one: &[u8],

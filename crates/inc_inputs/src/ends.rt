@@ -1,19 +1,24 @@
 //! Between which files of a project a question is asked.
-ghost use Rattle.std.specs.Prelude.{◌≡◌, ◌≢◌, ◌<◌, ◌∷◌, ◌++◌, [], ℕ, List, Ok, Err, OnOk, false, filter, length, map, not, slice_index_or, IfErr, IfOk, IfSome};
+ghost use Rattle.std.specs.Prelude.{◌≡◌, ◌≢◌, ◌<◌, ◌∷◌, ◌++◌, [], ℕ, List, Ok, Err, OnOk, false, filter, length, map, not, slice_get, slice_index_or, IfErr, IfOk, IfSome};
 ghost use Rattle.inc_globs.specs.Globs.{fits, pieces};
 ghost use Rattle.inc_args.specs.Views.{seen_question};
+ghost use Rattle.inc_cost.specs.Costs as spec;
 ghost use Rattle.inc_graph.specs.FileSets.{AreFlags};
 ghost use Rattle.inc_lookup.specs.Projects.{found_as, path_at};
-ghost use Rattle.inc_inputs.specs.Ends.{alone, apart, are_ends, asked_ends, end_paths, ends_at, file_path, glob_paths, is_path_of, named_files, some_ends, stands_for, word_paths, words_paths};
+ghost use Rattle.inc_inputs.specs.Ends.{alone, apart, are_ends, asked_ends, end_paths, ends_at, file_path, glob_paths, group_of, grouped_ends, groups_of, is_path_of, named_files, some_ends, some_group, stands_for, word_paths, words_paths};
+ghost use Rattle.inc_inputs.specs.BothNotes.{both_by, both_lines, both_notes, end_notes};
+ghost use Rattle.inc_inputs.specs.BuildReports.{some_lines};
 ghost use Rattle.inc_inputs.specs.HeaderNames.{header_notes, header_path};
 ghost use Rattle.inc_inputs.specs.Reports.{out_of_memory, report_of};
-ghost use Rattle.inc_inputs.specs.Views.{end_paths_in, seen_ends, seen_path, seen_paths};
-ghost use Rattle.inc_inputs.specs.declared.sides.Side.TheVariants.{Source};
+ghost use Rattle.inc_inputs.specs.Views.{end_paths_in, seen_ends, seen_group, seen_groups, seen_path, seen_paths};
+ghost use Rattle.inc_inputs.specs.declared.sides.Side.TheVariants.{Header, Source};
 
+use crate::both_notes::both_notes;
 use crate::failures::{Failure, glob_failure, unfit};
 use crate::header_names::{header_notes, header_path};
 use crate::sides::Side;
 use inc_args::QuestionArgs;
+use inc_cost::Group;
 use inc_globs::{Glob, GlobFault, is_glob};
 use inc_lookup::{FileId, Project, normalise};
 use std::alloc::{AllocError, Global};
@@ -23,7 +28,9 @@ use std::alloc::{AllocError, Global};
 pub struct EndPaths<'p> {
     pub from: Vec<&'p [u8]>,
     pub to: Vec<&'p [u8]>,
-    /// What is noted of the words that name headers: a line for each.
+    /// Groups of headers, each called by its word.
+    pub groups: Vec<Group<'p>>,
+    /// What is noted of the words: a line for each.
     pub notes: Vec<u8>,
 }
 
@@ -49,7 +56,7 @@ pub fn asked_ends<'p>(
     ensures ends { seen_ends result ≢ Err out_of_memory →
         seen_ends result ≡ asked_ends project.now (seen_question question.now) }
     ensures notes { IfOk result (λ ends. ends.notes.items
-        ≡ header_notes project.now (seen_question question.now)) }
+        ≡ end_notes project.now (seen_question question.now)) }
 {
     match ends_of_words(alloc, project, question) {
         Ok(ends) => with_notes(alloc, project, question, ends),
@@ -57,7 +64,7 @@ pub fn asked_ends<'p>(
     }
 }
 
-/// The same paths, with what is noted of the words of a question.
+/// The same paths, with what is noted of the words for headers before what is noted of them.
 fn with_notes<'p>(
     alloc: Global,
     project: &Project<'_>,
@@ -65,27 +72,45 @@ fn with_notes<'p>(
     ends: EndPaths<'p>,
 ) -> Result<EndPaths<'p>, Failure>
     ensures ends { seen_ends result ≢ Err out_of_memory → seen_ends result ≡ Ok (end_paths_in ends.entry) }
-    ensures notes { IfOk result (λ ends. ends.notes.items
-        ≡ header_notes project.now (seen_question question.now)) }
+    ensures notes { IfOk result (λ all. all.notes.items
+        ≡ header_notes project.now (seen_question question.now) ++ ends.entry.notes.items) }
 {
-    match header_notes(alloc, project, question) {
+    match notes_before(alloc, project, question, &ends.notes) {
         Ok(notes) => Ok(EndPaths {
             from: ends.from,
             to: ends.to,
+            groups: ends.groups,
             notes,
         }),
         Err(_) => Err(Failure::NoMemory),
     }
 }
 
-/// The paths between which a question is asked, with nothing noted.
+/// What is noted of the words for headers, and others behind it.
+fn notes_before(
+    alloc: Global,
+    project: &Project<'_>,
+    question: &QuestionArgs<'_>,
+    more: &[u8],
+) -> Result<Vec<u8>, AllocError>
+    ensures { IfOk result (λ notes. notes.items
+        ≡ header_notes project.now (seen_question question.now) ++ more.now) }
+{
+    let mut notes = header_notes(alloc, project, question)?;
+    notes.extend_from_slice(more)?;
+    Ok(notes)
+}
+
+/// The paths between which a question is asked, with what is noted of files that are among both.
 fn ends_of_words<'p>(
     alloc: Global,
     project: &'p Project<'_>,
     question: &QuestionArgs<'p>,
 ) -> Result<EndPaths<'p>, Failure>
-    ensures { seen_ends result ≢ Err out_of_memory →
+    ensures ends { seen_ends result ≢ Err out_of_memory →
         seen_ends result ≡ asked_ends project.now (seen_question question.now) }
+    ensures notes { let q = seen_question question.now in IfOk result (λ ends. ends.notes.items
+        ≡ both_notes project.now q.header q.from q.to) }
 {
     match (question.source, question.header) {
         (Some(source), Some(header)) => one_of_each(alloc, project, source, header),
@@ -101,8 +126,9 @@ fn one_of_each<'p>(
     source: &'p str,
     header: &'p str,
 ) -> Result<EndPaths<'p>, Failure>
-    ensures { seen_ends result ≢ Err out_of_memory → seen_ends result
+    ensures ends { seen_ends result ≢ Err out_of_memory → seen_ends result
         ≡ ends_at (Ok (source.entry.now ∷ [])) (alone (header_path project.now header.entry.now)) }
+    ensures notes { IfOk result (λ ends. ends.notes.items ≡ []) }
 {
     match one_path(alloc, source.as_bytes()) {
         Ok(from) => beside(alloc, project, from, header),
@@ -126,8 +152,9 @@ fn beside<'p>(
     from: Vec<&'p [u8]>,
     header: &'p str,
 ) -> Result<EndPaths<'p>, Failure>
-    ensures { seen_ends result ≢ Err out_of_memory → seen_ends result
+    ensures ends { seen_ends result ≢ Err out_of_memory → seen_ends result
         ≡ ends_at (Ok (map (λ p. p.now) from.entry.items)) (alone (header_path project.now header.entry.now)) }
+    ensures notes { IfOk result (λ ends. ends.notes.items ≡ []) }
 {
     match header_path(alloc, project, header.as_bytes()) {
         Ok(path) => with_header(alloc, from, path),
@@ -141,23 +168,26 @@ fn with_header<'p>(
     from: Vec<&'p [u8]>,
     header: &'p [u8],
 ) -> Result<EndPaths<'p>, Failure>
-    ensures { seen_ends result ≢ Err out_of_memory → seen_ends result
-        ≡ Ok (record { from = map (λ p. p.now) from.entry.items; to = header.entry.now ∷ [] }) }
+    ensures ends { seen_ends result ≢ Err out_of_memory → seen_ends result
+        ≡ Ok (record { from = map (λ p. p.now) from.entry.items; to = header.entry.now ∷ []; groups = [] }) }
+    ensures notes { IfOk result (λ ends. ends.notes.items ≡ []) }
 {
     match one_path(alloc, header) {
-        Ok(to) => Ok(unnoted(alloc, from, to)),
+        Ok(to) => Ok(noted(alloc, from, to, Vec::new(alloc))),
         Err(_) => Err(Failure::NoMemory),
     }
 }
 
-/// The paths of sources and of headers, with nothing noted.
-fn unnoted<'p>(alloc: Global, from: Vec<&'p [u8]>, to: Vec<&'p [u8]>) -> EndPaths<'p>
-    ensures { end_paths_in result ≡ record { from = map (λ p. p.now) from.entry.items; to = map (λ p. p.now) to.entry.items } }
+/// The paths of sources and of headers, with notes.
+fn noted<'p>(alloc: Global, from: Vec<&'p [u8]>, to: Vec<&'p [u8]>, notes: Vec<u8>) -> EndPaths<'p>
+    ensures ends { end_paths_in result ≡ record { from = map (λ p. p.now) from.entry.items; to = map (λ p. p.now) to.entry.items; groups = [] } }
+    ensures notes { result.notes.items ≡ notes.items }
 {
     EndPaths {
         from,
         to,
-        notes: Vec::new(alloc),
+        groups: Vec::new(alloc),
+        notes,
     }
 }
 
@@ -168,8 +198,9 @@ fn paths_to<'p>(
     from: &[&'p str],
     header: &'p str,
 ) -> Result<EndPaths<'p>, Failure>
-    ensures { seen_ends result ≢ Err out_of_memory → seen_ends result
+    ensures ends { seen_ends result ≢ Err out_of_memory → seen_ends result
         ≡ ends_at (words_paths project.now Source (map (λ w. w.now) from.now)) (alone (header_path project.now header.entry.now)) }
+    ensures notes { IfOk result (λ ends. ends.notes.items ≡ []) }
 {
     match paths_of(alloc, project, Side::Source, from) {
         Ok(from) => beside(alloc, project, from, header),
@@ -178,15 +209,17 @@ fn paths_to<'p>(
 }
 
 /// The paths that the words of `--from` and of `--to` stand for. A glob stands for the files of the project that it fits, in their order,
-/// and another word for itself. A file that both stand for is taken as a header alone.
+/// and another word for itself. A file that both stand for is taken as a header alone, which is noted.
 fn end_paths<'p>(
     alloc: Global,
     project: &'p Project<'_>,
     from: &[&'p str],
     to: &[&'p str],
 ) -> Result<EndPaths<'p>, Failure>
-    ensures { seen_ends result ≢ Err out_of_memory →
+    ensures ends { seen_ends result ≢ Err out_of_memory →
         seen_ends result ≡ end_paths project.now (map (λ w. w.now) from.now) (map (λ w. w.now) to.now) }
+    ensures notes { IfOk result (λ ends. ends.notes.items
+        ≡ both_by project.now (words_paths project.now Source (map (λ w. w.now) from.now)) (words_paths project.now Header (map (λ w. w.now) to.now))) }
 {
     let sources = match paths_of(alloc, project, Side::Source, from) {
         Ok(paths) => paths,
@@ -196,6 +229,136 @@ fn end_paths<'p>(
         Ok(headers) => apart_from(alloc, project, &sources, headers),
         Err(failure) => Err(failure),
     }
+}
+
+/// The paths that the words of `--from` stand for, and the groups for which those of `--to` stand.
+pub fn grouped_ends<'p>(
+    alloc: Global,
+    project: &'p Project<'_>,
+    question: &QuestionArgs<'p>,
+) -> Result<EndPaths<'p>, Failure>
+    ensures ends { seen_ends result ≢ Err out_of_memory →
+        seen_ends result ≡ grouped_ends project.now (seen_question question.now) }
+    ensures notes { IfOk result (λ ends. ends.notes.items
+        ≡ header_notes project.now (seen_question question.now)) }
+{
+    match grouped(alloc, project, question) {
+        Ok(ends) => with_notes(alloc, project, question, ends),
+        Err(failure) => Err(failure),
+    }
+}
+
+/// The same with nothing noted.
+fn grouped<'p>(
+    alloc: Global,
+    project: &'p Project<'_>,
+    question: &QuestionArgs<'p>,
+) -> Result<EndPaths<'p>, Failure>
+    ensures ends { seen_ends result ≢ Err out_of_memory →
+        seen_ends result ≡ grouped_ends project.now (seen_question question.now) }
+    ensures notes { IfOk result (λ ends. ends.notes.items ≡ []) }
+{
+    let from = match paths_of(alloc, project, Side::Source, &question.from) {
+        Ok(paths) => paths,
+        Err(failure) => return Err(failure),
+    };
+    match groups_of(alloc, project, &question.to) {
+        Ok(groups) => Ok(EndPaths {
+            from,
+            to: Vec::new(alloc),
+            groups,
+            notes: Vec::new(alloc),
+        }),
+        Err(failure) => Err(failure),
+    }
+}
+
+/// The groups for which words stand.
+fn groups_of<'p>(
+    alloc: Global,
+    project: &'p Project<'_>,
+    words: &[&'p str],
+) -> Result<Vec<Group<'p>>, Failure>
+    ensures { seen_groups result ≢ Err out_of_memory →
+        seen_groups result ≡ groups_of project.now (map (λ w. w.now) words.now) }
+{
+    let mut groups = Vec::new(alloc);
+    for word in words {
+        match add_group(&mut groups, alloc, project, word) {
+            Ok(()) => {}
+            Err(failure) => return Err(failure),
+        }
+    }
+    Ok(groups)
+}
+
+/// Adds the group for which a word stands.
+fn add_group<'p>(
+    groups: &mut Vec<Group<'p>>,
+    alloc: Global,
+    project: &'p Project<'_>,
+    word: &'p str,
+) -> Result<(), Failure>
+    ensures added { OnOk result ((x : spec.Group) × (group_of project.now word.entry.now ≡ Ok x)
+        × (groups.new.items ≡ groups.old.items ++ x ∷ [])) }
+    ensures fault { IfErr result (λ failure. report_of failure ≢ out_of_memory →
+        group_of project.now word.entry.now ≡ Err (report_of failure)) }
+{
+    match group_of(alloc, project, word.as_bytes()) {
+        Ok(group) => {
+            groups.push(group)?;
+            Ok(())
+        }
+        Err(failure) => Err(failure),
+    }
+}
+
+/// The group for which a word stands.
+fn group_of<'p>(
+    alloc: Global,
+    project: &'p Project<'_>,
+    word: &'p [u8],
+) -> Result<Group<'p>, Failure>
+    ensures { seen_group result ≢ Err out_of_memory → seen_group result ≡ group_of project.now word.entry.now }
+{
+    let mut paths = Vec::new(alloc);
+    match add_paths(&mut paths, alloc, project, Side::Header, word) {
+        Ok(()) => some_group(alloc, project, word, paths),
+        Err(failure) => Err(failure),
+    }
+}
+
+/// Paths as a group that is called by a word, which must name some file.
+fn some_group<'p>(
+    alloc: Global,
+    project: &Project<'_>,
+    word: &'p [u8],
+    paths: Vec<&'p [u8]>,
+) -> Result<Group<'p>, Failure>
+    ensures { seen_group result ≢ Err out_of_memory → seen_group result
+        ≡ some_group word.entry.now (map (λ p. p.now) paths.entry.items) (named_files project.now (map (λ p. p.now) paths.entry.items)) }
+{
+    match first_named(alloc, project, &paths) {
+        Ok(Some(_)) => Ok(Group { name: word, paths }),
+        Ok(None) => Err(unfit(alloc, Side::Header.option(), word)),
+        Err(_) => Err(Failure::NoMemory),
+    }
+}
+
+/// The first file that one of some paths names.
+fn first_named(
+    alloc: Global,
+    project: &Project<'_>,
+    paths: &[&[u8]],
+) -> Result<Option<FileId>, AllocError>
+    ensures { IfOk result (λ file. file ≡ slice_get (named_files project.now (map (λ p. p.now) paths.now)) 0) }
+{
+    for path in paths {
+        if let Some(file) = file_at(alloc, project, path)? {
+            return Ok(Some(file));
+        }
+    }
+    Ok(None)
 }
 
 /// The paths that words stand for.
@@ -390,15 +553,17 @@ fn add_fit<'p>(
     Ok(())
 }
 
-/// The paths of sources, without those of files that are headers, beside the headers.
+/// The paths of sources, without those of files that are headers, beside the headers, with notes of these files.
 fn apart_from<'p>(
     alloc: Global,
     project: &Project<'_>,
     sources: &[&'p [u8]],
     headers: Vec<&'p [u8]>,
 ) -> Result<EndPaths<'p>, Failure>
-    ensures { seen_ends result ≢ Err out_of_memory → seen_ends result
+    ensures ends { seen_ends result ≢ Err out_of_memory → seen_ends result
         ≡ some_ends (apart project.now (map (λ p. p.now) sources.now) (map (λ p. p.now) headers.entry.items)) (map (λ p. p.now) headers.entry.items) }
+    ensures notes { IfOk result (λ ends. ends.notes.items
+        ≡ some_lines (both_lines project.now (map (λ p. p.now) sources.now) (map (λ p. p.now) headers.entry.items))) }
 {
     let from = match paths_apart(alloc, project, sources, &headers) {
         Ok(paths) => paths,
@@ -407,7 +572,26 @@ fn apart_from<'p>(
     if from.is_empty() {
         return Err(Failure::NoSourceLeft);
     }
-    Ok(unnoted(alloc, from, headers))
+    with_both(alloc, project, sources, from, headers)
+}
+
+/// Paths of sources and of headers, with notes of the files that these headers and some paths of sources name.
+fn with_both<'p>(
+    alloc: Global,
+    project: &Project<'_>,
+    sources: &[&[u8]],
+    from: Vec<&'p [u8]>,
+    headers: Vec<&'p [u8]>,
+) -> Result<EndPaths<'p>, Failure>
+    ensures ends { seen_ends result ≢ Err out_of_memory → seen_ends result
+        ≡ Ok (record { from = map (λ p. p.now) from.entry.items; to = map (λ p. p.now) headers.entry.items; groups = [] }) }
+    ensures notes { IfOk result (λ ends. ends.notes.items
+        ≡ some_lines (both_lines project.now (map (λ p. p.now) sources.now) (map (λ p. p.now) headers.entry.items))) }
+{
+    match both_notes(alloc, project, sources, &headers) {
+        Ok(notes) => Ok(noted(alloc, from, headers, notes)),
+        Err(_) => Err(Failure::NoMemory),
+    }
 }
 
 /// Paths without those of files that others name.

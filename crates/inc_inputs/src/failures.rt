@@ -1,6 +1,6 @@
 //! Why the program gives no answer, and what it reports of that.
 ghost use Rattle.std.specs.Prelude.{◌≡◌, ◌≢◌, ◌<◌, ◌++◌, [], IfOk, OnOk, map, slice_index_or, codes, decimal};
-ghost use Rattle.inc_inputs.specs.Reports.{about_option, bad_glob, fits_none, hex_digit, hindrance_text, malformed_rules, no_directive, no_line, out_of_memory, report_of, read_report, list_report, compiler_report, definitions_report, project_report, several_headers, shown, shown_byte};
+ghost use Rattle.inc_inputs.specs.Reports.{about_option, bad_glob, baseline_report, fits_none, hex_digit, hindrance_text, malformed_baseline, malformed_rules, no_directive, no_line, out_of_memory, report_of, read_report, list_report, compiler_report, definitions_report, project_report, several_headers, shown, shown_byte};
 
 use inc_check::CertFault;
 use inc_lookup::ProjectFault;
@@ -106,7 +106,7 @@ pub enum Failure {
     NoSourceLeft,
     /// The words give no rules, or give them in two ways.
     NoRules,
-    /// A line of a list of rules has none: the name of the list, the line, and why.
+    /// A line of a list of rules, or of a baseline, has none, or a rule has a glob that fits no file: the name of the list, the line, and why.
     MalformedRules(Vec<u8>),
     /// No rule is about a file of the project.
     NoSubject,
@@ -238,6 +238,35 @@ fn rules_text(
     text.extend_from_slice(buffer.format(line).as_bytes())?;
     text.extend_from_slice(b": ")?;
     put_shown(&mut text, &fault_words(alloc, kind, words)?)?;
+    Ok(text)
+}
+
+/// The failure to report of a baseline of this name.
+pub(crate) fn baseline_failure(
+    alloc: Global,
+    fault: CertFault,
+    name: &[u8],
+) -> Result<Failure, AllocError>
+    ensures { IfOk result (λ failure. report_of failure ≡ baseline_report fault name.now) }
+{
+    Ok(match fault {
+        CertFault::Malformed { line } => {
+            Failure::MalformedRules(baseline_text(alloc, name, line)?)
+        }
+        CertFault::NoMemory => Failure::NoMemory,
+    })
+}
+
+/// That a line of a baseline is malformed.
+fn baseline_text(alloc: Global, name: &[u8], line: usize) -> Result<Vec<u8>, AllocError>
+    ensures { IfOk result (λ text. text.items ≡ (malformed_baseline name.now line).message) }
+{
+    let mut buffer = Buffer::new();
+    let mut text = Vec::new(alloc);
+    put_shown(&mut text, name)?;
+    text.extend_from_slice(b":")?;
+    text.extend_from_slice(buffer.format(line).as_bytes())?;
+    text.extend_from_slice(b": not PATH:NAME")?;
     Ok(text)
 }
 

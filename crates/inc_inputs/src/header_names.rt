@@ -98,7 +98,7 @@ fn paths_ending_in<'p>(
 }
 
 /// The paths that a pattern fits, in the order of the project; none where it does not end.
-fn paths_fitting<'p>(
+pub(crate) fn paths_fitting<'p>(
     alloc: Global,
     project: &'p Project<'_>,
     pattern: &[u8],

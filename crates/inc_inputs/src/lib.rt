@@ -2,6 +2,8 @@
 //! what it reports where that fails.
 #![tactic(auto)]
 
+mod baselines;
+mod both_notes;
 mod build_choices;
 mod build_dirs;
 mod build_empty;
@@ -36,15 +38,17 @@ mod projects;
 mod question_notes;
 mod questions;
 mod rule_lists;
+mod rule_notes;
 mod sides;
 mod texts;
 mod undefined_names;
 
+pub use baselines::{Accepted, Baseline, NamedLine, accepted_places, read_baseline};
 pub use build_macros::{MacroWord, with_macros};
 pub use build_places::{other_paths, read_with};
 pub use build_projects::{Added, BuildProject, find_preprocessing, find_question};
 pub use defines::read_defines;
-pub use ends::{EndPaths, are_ends, asked_ends};
+pub use ends::{EndPaths, are_ends, asked_ends, grouped_ends};
 pub use external_names::named_failure;
 pub use failures::{Failure, Hindrance, read_failure, unread, written};
 pub use file_lists::{PathEnd, list_paths};
@@ -58,6 +62,6 @@ pub use project_lists::path_end_in;
 pub use projects::{bytes_of, include_path};
 pub use question_notes::with_question_notes;
 pub use questions::with_questions;
-pub use rule_lists::{read_rule_text, rule_ends, rule_name, rules_in};
+pub use rule_lists::{read_rule_text, rule_name, rules_in, strict_ends};
 pub use texts::{Firsts, Texts, are_twice, costs_of, read_texts, read_texts_beside};
 pub use undefined_names::bytes_of_words;

@@ -184,7 +184,7 @@ fn with_paths<I: Inputs>(
 }
 
 /// Directives, and those of the file with this path.
-fn with_path<I: Inputs>(
+pub(crate) fn with_path<I: Inputs>(
     alloc: Global,
     inputs: &mut I,
     listed: Listed<'_>,

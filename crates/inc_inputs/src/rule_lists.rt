@@ -3,6 +3,7 @@ ghost use Rattle.std.specs.Prelude.{◌≡◌, ◌≢◌, ◌++◌, ◌∷◌, [
 ghost use Rattle.inc_args.specs.Views.{seen_rules};
 ghost use Rattle.inc_inputs.specs.Reports.{malformed_rules, out_of_memory, report_of};
 ghost use Rattle.inc_inputs.specs.RuleLists.{AreRules, lines_of_words, rule_ends, rule_name, rule_text, some_subjects};
+ghost use Rattle.inc_inputs.specs.RuleNotes.{ends_unless, first_of, rule_notes, strict_ends, unfit_lines};
 ghost use Rattle.inc_inputs.specs.Steps.{Comes};
 ghost use Rattle.inc_inputs.specs.Views.{end_paths_in, seen_ends, seen_text};
 ghost use Rattle.inc_rules.specs.Rules.{rules_of};
@@ -11,6 +12,7 @@ ghost use Rattle.inc_rules.specs.Views.{seen_rule};
 use crate::ends::EndPaths;
 use crate::failures::{Failure, rules_failure};
 use crate::inputs::Inputs;
+use crate::rule_notes::{first_unfit, rule_notes};
 use crate::texts::read_text;
 use inc_args::RuleArgs;
 use inc_lookup::Project;
@@ -73,22 +75,62 @@ pub fn rules_in<'t>(alloc: Global, text: &'t [u8], name: &str) -> Result<Vec<Rul
     }
 }
 
-/// The paths of the files that rules are about.
-pub fn rule_ends<'p>(
+/// The paths of the files that the rules of a list with this name are about, with notes of their globs that fit no file; where a header must
+/// be found, each glob must fit one.
+pub fn strict_ends<'p>(
     alloc: Global,
     project: &'p Project<'_>,
+    is_strict: bool,
+    name: &str,
+    rules: &[Rule<'_>],
+) -> Result<EndPaths<'p>, Failure>
+    ensures ends { seen_ends result ≢ Err out_of_memory →
+        seen_ends result ≡ strict_ends is_strict name.now project.entry.now (map seen_rule rules.now) }
+    ensures notes { IfOk result (λ ends. ends.notes.items ≡ rule_notes name.now project.entry.now (map seen_rule rules.now)) }
+{
+    if is_strict {
+        return fitting_ends(alloc, project, name, rules);
+    }
+    rule_ends(alloc, project, name, rules)
+}
+
+/// The same where each glob must fit a file.
+fn fitting_ends<'p>(
+    alloc: Global,
+    project: &'p Project<'_>,
+    name: &str,
+    rules: &[Rule<'_>],
+) -> Result<EndPaths<'p>, Failure>
+    ensures ends { let rules = map seen_rule rules.now in seen_ends result ≢ Err out_of_memory → seen_ends result
+        ≡ ends_unless (first_of (unfit_lines name.now project.entry.now rules)) (rule_ends project.entry.now rules) }
+    ensures notes { IfOk result (λ ends. ends.notes.items ≡ rule_notes name.now project.entry.now (map seen_rule rules.now)) }
+{
+    match first_unfit(alloc, project, name.as_bytes(), rules) {
+        Ok(Some(line)) => Err(Failure::MalformedRules(line)),
+        Ok(None) => rule_ends(alloc, project, name, rules),
+        Err(_) => Err(Failure::NoMemory),
+    }
+}
+
+/// The paths of the files that the rules of a list with this name are about, with notes of their globs that fit no file.
+fn rule_ends<'p>(
+    alloc: Global,
+    project: &'p Project<'_>,
+    name: &str,
     rules: &[Rule<'_>],
 ) -> Result<EndPaths<'p>, Failure>
     ensures ends { seen_ends result ≢ Err out_of_memory → seen_ends result ≡ rule_ends project.entry.now (map seen_rule rules.now) }
-    ensures notes { IfOk result (λ ends. ends.notes.items ≡ []) }
+    ensures notes { IfOk result (λ ends. ends.notes.items ≡ rule_notes name.now project.entry.now (map seen_rule rules.now)) }
 {
     let from = subjects(alloc, project, rules)?;
     if from.is_empty() {
         return Err(Failure::NoSubject);
     }
+    let notes = rule_notes(alloc, project, name, rules)?;
     Ok(EndPaths {
         from,
         to: Vec::new(alloc),
-        notes: Vec::new(alloc),
+        groups: Vec::new(alloc),
+        notes,
     })
 }

@@ -16,7 +16,7 @@ use Rattle.inc_graph.specs.declared.graphs.Blocker.{Blocker}
 use Rattle.inc_check.specs.declared.certificates.CountedMarks.{CountedMarks}
 use Rattle.inc_check.specs.Certificates.{marks_of, chain_marks, certificate_of}
 use Rattle.inc_check.specs.Texts.{line_text, lines_text, marks_text, times_text, chain_lines, cut_lines, chains_lines, certificate_text}
-use Rattle.inc_report.specs.CutText.{WithAmounts, Unhindered, marks_refusal, refusal_of_fault}
+use Rattle.inc_report.specs.CutText.{WithAmounts, Unhindered, marks_refusal, reasoned}
 use Rattle.inc_report.specs.Fitting.{counted_as}
 use Rattle.inc_report.specs.MarkTexts.{list_text}
 use Rattle.inc_report.specs.Numbers.{count_text}
@@ -82,7 +82,7 @@ pub unhindered : (Then : Layout → Graph → List ℕ → Printed → Type 0) (
     → WithAmounts l Then layout g p
 unhindered Then layout g l amounts p none named same told =
     by_parts layout g.blockers (marks_refusal layout g l.fixed l.costs) (Then layout g (amounts_by layout g l.kept l.fixed l.costs)) p none
-    (ap (option_and_then (refusal_of_fault l.fixed l.costs)) named) (subst (λ (ns : List ℕ). Then layout g ns p) same told)
+    (ap (option_and_then (reasoned layout g l.fixed l.costs)) named) (subst (λ (ns : List ℕ). Then layout g ns p) same told)
   where
-    by_parts : (at : Layout) (bs : List Blocker) (fault : Option Refusal) (Told : Printed → Type 0) (q : Printed) → bs ≡ [] → fault ≡ None → Told q → Unhindered at bs fault Told q
+    by_parts : (at : Layout) (bs : List Blocker) (fault : Option (List ℕ × Refusal)) (Told : Printed → Type 0) (q : Printed) → bs ≡ [] → fault ≡ None → Told q → Unhindered at bs fault Told q
     by_parts at bs fault Told q empty right is = rw (empty, right) is

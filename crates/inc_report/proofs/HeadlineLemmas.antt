@@ -30,7 +30,7 @@ use Rattle.inc_report.specs.MissingNotes.{empty_notes}
 use Rattle.inc_report.specs.NamedFiles.{headers_at, sources_at}
 use Rattle.inc_report.specs.Printed.{Printed}
 use Rattle.inc_report.specs.Questions.{Answer, IsAnswer, IsAnswerBy, WithFiles, WithGraph, OfGraph, IsRefusalOf, no_header, no_source}
-use Rattle.inc_report.specs.Refusals.{Refusal, refusal, TooManyDirectives, Malformed}
+use Rattle.inc_report.specs.Refusals.{Refusal, refusal, refusal_for, TooManyDirectives, Malformed}
 use Rattle.inc_report.specs.Known.{IsKnown}
 use Rattle.inc_report.specs.Strictness.{Strict, Unless, not_found, open_strays_of}
 use Rattle.inc_report.proofs.KnownParts.{OfKnown}
@@ -52,6 +52,10 @@ IsStated p = p.end.kind ≡ Refused → ⊥
 never_refused : (r : Refusal) (p : Printed) → p ≡ refusal r → IsStated p → ⊥
 unfolding IsStated
 never_refused r p is stated = stated (ap (λ (q : Printed). q.end.kind) is)
+
+never_reasoned : (reason : List ℕ) (r : Refusal) (p : Printed) → p ≡ refusal_for reason r → IsStated p → ⊥
+unfolding IsStated
+never_reasoned reason r p is stated = stated (ap (λ (q : Printed). q.end.kind) is)
 
 never_blocked : (layout : Layout) (bs : List Blocker) (p : Printed) → p ≡ blocked layout bs → IsStated p → ⊥
 unfolding IsStated
@@ -125,9 +129,9 @@ module _ (Then : Answer) (q : Question) (listing : Listing) (p : Printed) (state
   pub told_of : IsAnswer Then q listing p → IsTold Then q listing p
   told_of is = told_files (sources_at (layout_of listing) q) (headers_at (layout_of listing) q.to) refl refl is
 
-pub unhindered_told : (layout : Layout) (bs : List Blocker) (fault : Option Refusal) (Told : Printed → Type 0) (p : Printed) → IsStated p → Unhindered layout bs fault Told p → (bs ≡ []) × Told p
+pub unhindered_told : (layout : Layout) (bs : List Blocker) (fault : Option (List ℕ × Refusal)) (Told : Printed → Type 0) (p : Printed) → IsStated p → Unhindered layout bs fault Told p → (bs ≡ []) × Told p
 unhindered_told layout (b ∷ bs) fault Told p stated is = absurd (never_blocked layout (b ∷ bs) p is stated)
-unhindered_told layout [] (Some r) Told p stated is = absurd (never_refused r p is stated)
+unhindered_told layout [] (Some r) Told p stated is = absurd (never_reasoned r.0 r.1 p is stated)
 unhindered_told layout [] None Told p stated is = (refl, is)
 
 -- what is stated is no refusal of directives whose header is not found
@@ -197,7 +201,7 @@ check_headline q l text p given listing is end =
 
 ---- a cut
 
-pub unhindered_all : (layout : Layout) (bs : List Blocker) (fault : Option Refusal) (A B : Printed → Type 0) (p : Printed) → (A p → B p) → Unhindered layout bs fault A p → Unhindered layout bs fault B p
+pub unhindered_all : (layout : Layout) (bs : List Blocker) (fault : Option (List ℕ × Refusal)) (A B : Printed → Type 0) (p : Printed) → (A p → B p) → Unhindered layout bs fault A p → Unhindered layout bs fault B p
 unhindered_all layout (b ∷ bs) fault A B p step is = is
 unhindered_all layout [] (Some r) A B p step is = is
 unhindered_all layout [] None A B p step is = step is

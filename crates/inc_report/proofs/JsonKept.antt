@@ -13,6 +13,8 @@ use Rattle.inc_graph.specs.IncludeGraph.{Edge, Graph}
 use Rattle.inc_graph.specs.MissingLists.{Missing}
 use Rattle.inc_graph.specs.Reaching.{Reaching}
 use Rattle.inc_graph.specs.declared.graphs.Blocker.{Blocker}
+use Rattle.inc_report.specs.CostJson.{bytes_text, cost_json, count_member, edge_item, group_item, header_item}
+use Rattle.inc_report.specs.CostText.{Amounts, Ranked}
 use Rattle.inc_report.specs.JsonAnswers.{About, blocked_text, blocker_text, blockers_text, chain_if, chains_text, counted_item, counted_text, cut_json, edge_text, edges_text, file_member, files_text, fixed_json, found_text, from_text, front_text, graph_json, links_text, missing_item, missing_text, named_form, names_text, numbered_text, place_text, sets_ends, shortest_text, source_item, sources_text, status_text, to_text, who_json, why_ends, why_json}
 use Rattle.inc_report.specs.JsonDirectives.{directive_text}
 use Rattle.inc_report.specs.JsonTexts.{bytes_member, list_of, number_member}
@@ -204,3 +206,20 @@ module _ (layout : Layout) (g : Graph) (k l : DirectiveId → LineKind) where
         ap₂ (λ (blocked broken : List ℕ). rules_ends kind (length js) blocked broken (missing_text (by k))) (blockers_same g.blockers same.blockers)
         (ap list_of (each_same (broken_item name (by k)) (broken_item name (by l)) (filter is_broken js) (broken_same name)))
         ∙ ap (rules_ends kind (length js) (blocked_text (by l)) (list_of (broken_items name (by l) js))) missing_same
+
+    cost_ends : Ranked → (blocked directives missing : List ℕ) → List ℕ
+    cost_ends r blocked directives missing =
+        codes "{\"blocked\":" ++ blocked ++ codes "," ++ number_member (codes "bytes") r.total ++ codes ",\"command\":\"cost\",\"directives\":"
+        ++ directives ++ codes ",\"format\":1," ++ from_text (by k) ++ codes ",\"groups\":" ++ list_of (map (group_item r.costed) r.groups)
+        ++ codes ",\"headers\":" ++ list_of (map (header_item (by k) r.brought) r.headers) ++ codes ",\"missing\":" ++ missing ++ codes ",\"status\":0}\n"
+
+    cost_edge_same : (a : Amounts) (i : ℕ) → edge_item (by k) a i ≡ edge_item (by l) a i
+    cost_edge_same a i =
+        ap (λ (directive : List ℕ). codes "{" ++ bytes_text a i ++ codes ",\"directive\":" ++ directive ++ codes "," ++ count_member a i ++ codes "}") (numbered_same i)
+
+    pub cost_same : (r : Ranked) → cost_json (by k) r ≡ cost_json (by l) r
+    unfolding cost_ends
+    cost_same r =
+        ap₂ (λ (blocked directives : List ℕ). cost_ends r blocked directives (missing_text (by k))) (blockers_same g.blockers same.blockers)
+        (ap list_of (each_same (edge_item (by k) r.saved) (edge_item (by l) r.saved) r.edges (cost_edge_same r.saved)))
+        ∙ ap (cost_ends r (blocked_text (by l)) (list_of (map (edge_item (by l) r.saved) r.edges))) missing_same

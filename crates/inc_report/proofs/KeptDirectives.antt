@@ -2,7 +2,9 @@
 use Rattle.std.proofs.Common.{◌≡◌, ℕ, ◌+◌, ◌==◌, Bool, true, false, List, [], ◌∷◌, ◌++◌, Option, Some, None, cond, length, map, is_some, refl, subst}
 use Rattle.std.specs.Prelude.{flat_map, slice_get, IsTrue}
 use Rattle.std.specs.List.{All, cons_option}
+use Rattle.std.specs.Option.{option_map_or}
 use Rattle.std.proofs.lemmas.List.Elements.{All-append, All-cons, All-head, All-map, All-nil, All-tail, All-take}
+use Rattle.std.proofs.lemmas.Option.{get_or_from_slice_get, slice_get_within}
 use Rattle.inc_lookup.specs.declared.projects.DirectiveId.{DirectiveId}
 use Rattle.inc_lookup.specs.Projects.{Layout}
 use Rattle.inc_graph.specs.Cuts.{Counted, directives_of}
@@ -12,6 +14,9 @@ use Rattle.inc_graph.specs.declared.graphs.Blocker.{Blocker}
 use Rattle.inc_graph.specs.declared.graphs.BlockerKind.{BlockerKind}
 use Rattle.inc_report.specs.Bounds.{first_of, left_out, more_words, shown_count}
 use Rattle.inc_report.specs.CutDocument.{chain_blocks, chains_from, cut_document, fixed_document, proof_blocks, shown_chains}
+use Rattle.inc_report.specs.CostDocument.{below, cost_document, edge_block, edge_blocks, group_block, group_blocks, group_words, header_block, header_blocks, led_edge}
+use Rattle.inc_report.specs.CostGroups.{Costed}
+use Rattle.inc_report.specs.CostText.{Amounts, Ranked}
 use Rattle.inc_report.specs.Documents.{AreGraphKept, AreKept, Block, IsKept, Led, Place, Words, edge_places, first_places, listed, more_blocks, places}
 use Rattle.inc_report.specs.GraphDocument.{graph_document, link_block}
 use Rattle.inc_report.specs.KeptFiles.{Kept, kept_at}
@@ -204,3 +209,45 @@ module _ (kept : Kept) where
     rules_kept name layout js =
         both (flat_map (judged_blocks name layout g) js) (Words (summary_words js) ∷ unresolved_blocks true g) (judged_kept name layout js)
         (words_first _ (unresolved_blocks true g) (unresolved_kept true))
+
+    ---- cost
+
+    below_kept : (words places : List ℕ) (blocks : List Block) → AreKept kept blocks → AreKept kept (below words places blocks)
+    below_kept words [] blocks all = nothing
+    below_kept words (i ∷ is) blocks all = words_first _ blocks all
+
+    cost_headers_kept : (layout : Layout) (a : Amounts) (headers : List ℕ) → AreKept kept (flat_map (header_block layout a) headers)
+    cost_headers_kept layout a [] = nothing
+    cost_headers_kept layout a (f ∷ fs) = words_first _ (flat_map (header_block layout a) fs) (cost_headers_kept layout a fs)
+
+    group_if : (o : Option Costed) → AreKept kept (option_map_or (λ (c : Costed). Words (group_words c) ∷ []) o [])
+    group_if None = nothing
+    group_if (Some c) = words_first _ [] nothing
+
+    groups_kept : (cs : List Costed) (places : List ℕ) → AreKept kept (flat_map (group_block cs) places)
+    groups_kept cs [] = nothing
+    groups_kept cs (i ∷ is) = both (group_block cs i) (flat_map (group_block cs) is) (group_if (slice_get cs i)) (groups_kept cs is)
+
+    cost_edge_kept : (words : List ℕ) (i : ℕ) (o : Option Edge) → slice_get g.edges i ≡ o → AreKept kept (option_map_or (led_edge words) o [])
+    cost_edge_kept words i None is = nothing
+    cost_edge_kept words i (Some e) is =
+        All-cons (IsKept kept) (Led words (record { file = e.from; line = e.line })) []
+        (subst (λ (x : Edge). IsTrue (is_some (kept_at kept x.from))) (get_or_from_slice_get g.edges i e e is) (held.edges i e (slice_get_within g.edges i e is))) nothing
+
+    cost_edges_kept : (a : Amounts) (is : List ℕ) → AreKept kept (flat_map (edge_block g a) is)
+    cost_edges_kept a [] = nothing
+    cost_edges_kept a (i ∷ is) =
+        both (edge_block g a i) (flat_map (edge_block g a) is) (cost_edge_kept _ i (slice_get g.edges i) refl) (cost_edges_kept a is)
+
+    pub cost_kept : (layout : Layout) (r : Ranked) → AreKept kept (cost_document layout g r)
+    cost_kept layout r =
+        let headers = header_blocks layout r.brought r.headers in
+        let groups = group_blocks r.costed r.groups in
+        let edges = edge_blocks g r.saved r.edges in
+        words_first _ (headers ++ groups ++ edges ++ unresolved_blocks true g)
+        (both (headers ++ groups ++ edges) (unresolved_blocks true g)
+        (both (headers ++ groups) edges
+        (both headers groups (below_kept _ r.headers (flat_map (header_block layout r.brought) r.headers) (cost_headers_kept layout r.brought r.headers))
+        (below_kept _ r.groups (flat_map (group_block r.costed) r.groups) (groups_kept r.costed r.groups)))
+        (below_kept _ r.edges (flat_map (edge_block g r.saved) r.edges) (cost_edges_kept r.saved r.edges)))
+        (unresolved_kept true))

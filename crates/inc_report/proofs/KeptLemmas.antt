@@ -1,13 +1,14 @@
 -- What was read by sources that keep what they give, and what they kept of it.
-use Rattle.std.proofs.Common.{◌≡◌, ◌≢◌, ◌⊎◌, inl, inr, ℕ, zero, suc, ◌<◌, Bool, true, false, ◌==◌, List, [], ◌∷◌, Option, Some, None, Result, length, set, get_or, refl, sym, ap, ◌∙◌, subst, is_some, length-set, arith}
-use Rattle.std.specs.Prelude.{replicate}
+use Rattle.std.proofs.Common.{◌≡◌, ◌≢◌, ◌⊎◌, inl, inr, ℕ, zero, suc, ◌<◌, Bool, true, false, ◌==◌, List, [], ◌∷◌, Option, Some, None, Result, length, set, get_or, refl, sym, ap, ◌∙◌, subst, is_some, length-set, arith, cond, option_map}
+use Rattle.std.specs.Prelude.{find, replicate}
 use Rattle.std.specs.List.{list_any}
-use Rattle.std.proofs.lemmas.Bool.{or_cases, eqb-true, eqb-false}
-use Rattle.std.proofs.lemmas.List.{get_or-set_same, get_or-set_other}
+use Rattle.std.proofs.lemmas.Bool.{or_cases, or_parts, eqb-true, eqb-false}
+use Rattle.std.proofs.lemmas.List.{get_or-set_same, get_or-set_other, length-replicate}
 use Rattle.std.proofs.lemmas.List.Elements.{All-head, All-tail}
 use Rattle.inc_text.specs.declared.devices.ReadFault.{ReadFault}
 use Rattle.inc_lookup.specs.Given.{Given, Gave, Agrees, HoldsOfGiven}
 use Rattle.inc_lookup.specs.Projects.{Layout, Listing, layout_of, bytes_at}
+use Rattle.inc_report.specs.DefinitionPlaces.{given_bytes}
 use Rattle.inc_report.specs.KeptFiles.{Kept, kept_at, Fits, keeps}
 use Rattle.inc_report.specs.declared.kept_sources.KeptSources.{KeptSources}
 use Rattle.inc_report.proofs.InnerSources as inner
@@ -39,6 +40,11 @@ unread_none zero i bytes is = cc
 unread_none (suc n) zero bytes is = cc
 unread_none (suc n) (suc i) bytes is = unread_none n i bytes is
 
+pub kept_none : (n i : ℕ) → kept_at (replicate n None) i ≡ None
+kept_none zero i = refl
+kept_none (suc n) zero = refl
+kept_none (suc n) (suc i) = kept_none n i
+
 -- where nothing is kept every listing fits
 pub fits_unread : (kept : Kept) (n : ℕ) (listing : Listing) → kept ≡ replicate n None → Fits kept listing
 fits_unread kept n listing is = λ file bytes there. absurd (unread_none n file bytes (ap (λ (k : Kept). kept_at k file) (sym is) ∙ there))
@@ -69,6 +75,14 @@ module _ {S : Type 0} (gives : S → ℕ → Result (List ℕ) ReadFault → S �
       fits_set h.0.files new.files listing g h.2.1
       (fits_given old h.0 gs listing h.1 (All-tail (λ (x : Given). bytes_at listing x.file ≡ x.bytes) g gs agrees) fits)
       (All-head (λ (x : Given). bytes_at listing x.file ≡ x.bytes) g gs agrees)
+
+  -- of a file that was not given the same is kept
+  pub kept_ungiven : (old new : KeptSources S) (given : List Given) (file : ℕ) → Gave (keeps gives) old given new → list_any (λ (g : Given). g.file == file) given ≡ false
+      → kept_at new.files file ≡ kept_at old.files file
+  kept_ungiven old new [] file h none = ap (λ (k : KeptSources S). kept_at k.files file) (sym h)
+  kept_ungiven old new (g ∷ gs) file h none =
+      let parts = or_parts (g.file == file) (list_any (λ (x : Given). x.file == file) gs) none in
+      ap (λ (k : Kept). kept_at k file) h.2.1 ∙ kept-other h.0.files g.file file g.bytes (λ e. eqb-false g.file file parts.0 (sym e)) ∙ kept_ungiven old h.0 gs file h.1 parts.1
 
   pub kept_long : (old new : KeptSources S) (given : List Given) → Gave (keeps gives) old given new → length new.files ≡ length old.files
   kept_long old new [] h = ap (λ (k : KeptSources S). length k.files) (sym h)
@@ -103,6 +117,25 @@ module _ {S : Type 0} (gives : S → ℕ → Result (List ℕ) ReadFault → S �
         | inl here ↦ inl here
         | inr before ↦ inr (kept_given old h.0 gs file h.1 low before)
       ])
+
+  -- of each file the latest is
+  pub kept_is_given : (old new : KeptSources S) (given : List Given) (n file : ℕ) → Gave (keeps gives) old given new → old.files ≡ replicate n None → file < n
+      → kept_at new.files file ≡ given_bytes given file
+  kept_is_given old new [] n file h none low = ap (λ (k : KeptSources S). kept_at k.files file) (sym h) ∙ ap (λ (k : Kept). kept_at k file) none ∙ kept_none n file
+  kept_is_given old new (g ∷ gs) n file h none low =
+      ap (λ (k : Kept). kept_at k file) h.2.1 ∙ by (g.file == file) refl (kept_is_given old h.0 gs n file h.1 none low)
+    where
+      nothing : Option (List ℕ)
+      nothing = None
+
+      by : (b : Bool) → (g.file == file) ≡ b → kept_at h.0.files file ≡ given_bytes gs file
+          → kept_at (set h.0.files g.file (Some g.bytes)) file ≡ option_map (λ (x : Given). x.bytes) (cond b (Some g) (find (λ (x : Given). x.file == file) gs))
+      by true same before =
+          let e : g.file ≡ file = eqb-true g.file file same in
+          let long = kept_long old h.0 gs h.1 in
+          let count : length old.files ≡ n = ap (λ (k : Kept). length k) none ∙ length-replicate n nothing in
+          ap (λ k. kept_at (set h.0.files g.file (Some g.bytes)) k) (sym e) ∙ kept-same h.0.files g.file g.bytes (omega (arith, long, low, e, count))
+      by false other before = kept-other h.0.files g.file file g.bytes (λ e. eqb-false g.file file other (sym e)) ∙ before
 
   -- what holds of the listings that agree with what was given
   pub holds_inner : (old new : KeptSources S) (layout : Layout) (P Q : List Given → Listing → Type 0) → HoldsOfGiven (keeps gives) old new layout P

@@ -29,7 +29,7 @@ use Rattle.inc_graph.specs.Settings.{Setting, layouts_of, listing_in}
 use Rattle.inc_graph.specs.declared.building.Source.{Source}
 use Rattle.inc_graph.specs.IncludeGraph.{Edge, Graph, Start, IsClosure, IsReached, Lead, Nowhere, Several, To, as_source, bad_file, blockers_from, directive_count, edges_from, entries_from, entry_blocker, entry_of, file_definitions, found_by, graph_directives, graph_of_files, graph_or_bad, inner_files, is_defined_in, leads, name_entry, text_definitions, undefined_place}
 use Rattle.inc_graph.specs.Between.{between}
-use Rattle.inc_graph.specs.Chains.{is_chain, is_walk, leaves, target}
+use Rattle.inc_graph.specs.Chains.{IsShortestOrNone, is_chain, is_walk, leaves, target}
 use Rattle.inc_graph.specs.Members.{is_member}
 use Rattle.inc_graph.specs.Cuts.{Fixed, IsSeparating, directives_of, meets}
 use Rattle.inc_graph.proofs.BetweenWalks.{chain_between}
@@ -49,7 +49,7 @@ use Rattle.inc_pp.specs.Preprocessing.{Outcome, preprocessing}
 use Rattle.inc_pp.specs.Settings.{Settings}
 use Rattle.inc_pp.proofs.NamedIncludes.{BeginsWith}
 use Rattle.inc_report.specs.Headline.{DefineNone, NeverReadAny, NeverReads}
-use Rattle.inc_report.specs.KeptOut.{KeepsOut, CutKeepsHeadersOut, AnsweredCutKeepsHeadersOut, NothingUnreachedIsRead, NothingIsReadWithoutChain}
+use Rattle.inc_report.specs.KeptOut.{KeepsOut, CutKeepsHeadersOut, AnsweredCutKeepsHeadersOut, NothingUnreachedIsRead, NothingIsReadWithoutChain, UnreachedIsKeptOut}
 use Rattle.inc_report.proofs.KeptLines.{Each, contains_more, each_both, each_weaker, IsLineOf, Stays, LineStays, directive_at, tree_lines, tree_stays}
 use Rattle.inc_report.proofs.NamedLines.{any_there, begins_with, line_is_spelled, none_defined, none_once, place_there}
 use Rattle.inc_report.proofs.ReadWalks.{AreAbsent, IsNearRead, LeadsNear, near_reads}
@@ -418,6 +418,20 @@ answered_cut_keeps_headers_out setting listing sources headers g answer clear fi
     subst (λ (x : Graph). x.blockers ≡ [] → IsSeparating x fixed set → KeepsOut setting listing sources headers x set) same
     (λ none met. cut_keeps_headers_out setting listing sources headers starts answer.1 (no_bad bads count h g answer.2) none fixed set met)
     clear separates
+
+---- what no chain reaches
+
+-- nothing need be removed
+none_separates : (g : Graph) (fixed : Fixed) → IsShortestOrNone g None → IsSeparating g fixed []
+none_separates g fixed none = record {
+  editable = refl;
+  once = refl;
+  met = λ chain is. absurd (both_ways (is_chain g chain) (not-true (is_chain g chain) (none chain)) is);
+}
+
+pub unreached_is_kept_out : UnreachedIsKeptOut
+unreached_is_kept_out setting listing sources headers g answer clear none =
+    answered_cut_keeps_headers_out setting listing sources headers g answer clear (λ i. false) [] (none_separates g (λ i. false) none)
 
 ---- what no walk reaches
 

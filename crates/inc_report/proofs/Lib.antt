@@ -12,6 +12,7 @@ pub mod WhoLemmas
 pub mod WhyLemmas
 pub mod EdgeParts
 pub mod CutLemmas
+pub mod MarkReasonLemmas
 pub mod OneText
 pub mod PpLemmas
 pub mod PpSections
@@ -35,6 +36,7 @@ pub mod NamedDirectives
 pub mod FitLemmas
 pub mod HeadlineLemmas
 mod ByteLemmas
+pub mod DefinitionLemmas
 pub mod InnerSources
 pub mod KeptLemmas
 pub mod ChangeLemmas
@@ -60,4 +62,9 @@ pub mod LinkBlocks
 pub mod ReadFiles
 pub mod CostLines
 pub mod CostPlaces
+pub mod MetFiles
+pub mod RankedSame
+pub mod CostBlocks
 pub mod CostLemmas
+pub mod CostGroupLemmas
+pub mod UsefulDirLemmas

@@ -1,5 +1,5 @@
 -- Texts that are added one after the other.
-use Rattle.std.proofs.Common.{◌≡◌, ◌∙◌, ◌+◌, ◌-◌, ◌<◌, ℕ, zero, suc, List, [], ◌∷◌, ◌++◌, Option, Some, None, cond, ap, refl, sym, drop, get_or, length, map, take}
+use Rattle.std.proofs.Common.{◌≡◌, ◌∙◌, ◌+◌, ◌-◌, ◌<◌, ℕ, zero, suc, List, [], ◌∷◌, ◌++◌, Option, Some, None, cond, ap, arith, refl, sym, drop, get_or, length, map, take}
 use Rattle.std.proofs.lemmas.Bool.{lt-ltb}
 use Rattle.std.proofs.lemmas.List.{append_assoc, drop_more, flat_map_more, map-append, take_more}
 use Rattle.std.proofs.lemmas.Option.{same_Some}
@@ -7,8 +7,9 @@ use Rattle.std.specs.Option.{option_map_or}
 use Rattle.std.specs.Prelude.{Bool, flat_map, nat_lt, slice_get, unwrap_or}
 use Rattle.inc_lookup.specs.Projects.{Layout, path_at}
 use Rattle.inc_graph.specs.MissingLists.{Missing}
+use Rattle.inc_graph.specs.declared.graphs.Blocker.{Blocker}
 use Rattle.inc_report.specs.MissingNames.{MissingName, ranked}
-use Rattle.inc_report.specs.MissingNotes.{directory_before, found_line, found_note, more_note, name_note, names_note}
+use Rattle.inc_report.specs.MissingNotes.{directory_before, empty_line, empty_notes, found_line, found_note, missing_note, more_note, name_note, names_note, unreached_line, unreached_notes}
 use Rattle.inc_report.specs.Views.{seen_name}
 use Rattle.inc_report.specs.declared.missing_names.MissingName as code
 
@@ -26,7 +27,7 @@ joined_as old a b c x y h k is = joined old a b x y h (k ∙ ap (λ (l : List �
 pub file_is : (place count file : ℕ) → place < count → Some file ≡ cond (nat_lt place count) (Some place) None → file ≡ place
 file_is place count file low is = same_Some file place (is ∙ ap (λ (b : Bool). cond b (Some place) None) (lt-ltb place count low))
 
-path_is : (paths : List (List ℕ)) (i : ℕ) → unwrap_or (slice_get paths i) [] ≡ get_or paths i []
+pub path_is : (paths : List (List ℕ)) (i : ℕ) → unwrap_or (slice_get paths i) [] ≡ get_or paths i []
 path_is [] i = refl
 path_is (p ∷ ps) zero = refl
 path_is (p ∷ ps) (suc i) = path_is ps i
@@ -66,3 +67,14 @@ names_added layout ms old x y first lent names n h same are k left =
     joined_as old (flat_map (name_note layout) (take 10 (ranked names))) (more_note (length names - 10)) (more_note n) x y
     (h ∙ ap (λ (l : List MissingName). old ++ flat_map (name_note layout) l) (ap (λ (l : List code.MissingName). map (seen_name ms) l) same ∙ are))
     k (ap (λ (i : ℕ). more_note i) left)
+
+---- what is noted of some directives
+
+pub empty_is : (layout : Layout) (ms : List Missing) (count : ℕ) → count ≡ length ms → 0 < count → empty_line count ++ missing_note layout ms ≡ empty_notes layout ms
+empty_is layout [] count is some = absurd (omega (arith, is, some))
+empty_is layout (m ∷ ms) count is some = ap (λ (n : ℕ). empty_line n ++ missing_note layout (m ∷ ms)) is
+
+pub unreached_is : (whole : Bool) (layout : Layout) (bs : List Blocker) (ms : List Missing) (count : ℕ) → count ≡ length ms → 0 < count
+    → unreached_line count ++ missing_note layout ms ≡ unreached_notes whole layout bs ms
+unreached_is whole layout bs [] count is some = absurd (omega (arith, is, some))
+unreached_is whole layout bs (m ∷ ms) count is some = ap (λ (n : ℕ). unreached_line n ++ missing_note layout (m ∷ ms)) is

@@ -1,7 +1,7 @@
 -- The definitions of what `why`, `who` and `graph` print leave one text.
 use Rattle.std.proofs.Common.{◌≡◌, ℕ, Bool, List, Option, Result, Ok, Err, sym, ap, ◌∙◌, subst}
 use Rattle.inc_graph.specs.declared.building.Source.{Source}
-use Rattle.inc_report.specs.Terms.{Question, setting_in}
+use Rattle.inc_report.specs.Terms.{Question, is_whole, setting_in}
 use Rattle.inc_lookup.specs.Projects.{Layout, Listing, layout_of}
 use Rattle.inc_graph.specs.IncludeGraph.{Graph}
 use Rattle.inc_graph.specs.declared.building.GraphRefusal.{GraphRefusal}
@@ -17,12 +17,12 @@ use Rattle.inc_report.specs.WhoText.{who_printed, IsWhoOf, IsWho}
 use Rattle.inc_report.specs.WhyText.{why_printed, IsWhyOf, IsWhy}
 use Rattle.inc_report.proofs.StrictLemmas.{one_unless}
 
-one_why_of : (fails : Bool) (most : Option ℕ) (layout : Layout) (g : Graph) (p q : Printed) → IsWhyOf fails most layout g p → IsWhyOf fails most layout g q → p ≡ q
-one_why_of fails most layout g p q h k =
+one_why_of : (whole fails : Bool) (most : Option ℕ) (layout : Layout) (g : Graph) (p q : Printed) → IsWhyOf whole fails most layout g p → IsWhyOf whole fails most layout g q → p ≡ q
+one_why_of whole fails most layout g p q h k =
     let shortest : h.0 ≡ k.0 = one_shortest g h.0 k.0 h.2 k.2 in
     let chains : h.1 ≡ k.1 = one_by_last g 0 h.1 k.1 h.3 k.3 in
-    h.4 ∙ ap (λ (s : Option (List ℕ)). why_printed fails most layout g s h.1) shortest
-    ∙ ap (λ (cs : List (List ℕ)). why_printed fails most layout g k.0 cs) chains ∙ sym k.4
+    h.4 ∙ ap (λ (s : Option (List ℕ)). why_printed whole fails most layout g s h.1) shortest
+    ∙ ap (λ (cs : List (List ℕ)). why_printed whole fails most layout g k.0 cs) chains ∙ sym k.4
 
 one_refusal : (layout : Layout) (fault : GraphRefusal) (p q : Printed) → IsRefusalOf layout fault p → IsRefusalOf layout fault q → p ≡ q
 one_refusal layout (graph.BadFile file fault) p q h k = h ∙ sym k
@@ -53,26 +53,26 @@ one_with_files layout q (Ok s) (Ok t) Then one a b h k = one s t a b h k
 pub one_why : (fails : Bool) (most : Option ℕ) (q : Question) (listing : Listing) (a b : Printed) → IsWhy fails most q listing a → IsWhy fails most q listing b → a ≡ b
 one_why fails most q listing a b h k =
     one_with_files (layout_of listing) q (sources_at (layout_of listing) q) (headers_at (layout_of listing) q.to)
-    (λ s t r. WithGraph q listing s t (Strict (strays_of q) (IsWhyOf fails most) (layout_of listing)) r)
-    (λ s t p2 q2 h2 k2. one_with_graph q listing s t (Strict (strays_of q) (IsWhyOf fails most) (layout_of listing))
-    (λ g p3 q3 h3 k3. one_unless (layout_of listing) (strays_of q g) (IsWhyOf fails most (layout_of listing) g) p3 q3 (one_why_of fails most (layout_of listing) g p3 q3) h3 k3) p2 q2 h2 k2)
+    (λ s t r. WithGraph q listing s t (Strict (strays_of q) (IsWhyOf (is_whole q) fails most) (layout_of listing)) r)
+    (λ s t p2 q2 h2 k2. one_with_graph q listing s t (Strict (strays_of q) (IsWhyOf (is_whole q) fails most) (layout_of listing))
+    (λ g p3 q3 h3 k3. one_unless (layout_of listing) (strays_of q g) (IsWhyOf (is_whole q) fails most (layout_of listing) g) p3 q3 (one_why_of (is_whole q) fails most (layout_of listing) g p3 q3) h3 k3) p2 q2 h2 k2)
     a b h k
 
-one_who_of : (with_chains fails : Bool) (most : Option ℕ) (layout : Layout) (g : Graph) (p q : Printed) → IsWhoOf with_chains fails most layout g p
-    → IsWhoOf with_chains fails most layout g q → p ≡ q
-one_who_of with_chains fails most layout g p q h k =
+one_who_of : (whole with_chains fails : Bool) (most : Option ℕ) (layout : Layout) (g : Graph) (p q : Printed) → IsWhoOf whole with_chains fails most layout g p
+    → IsWhoOf whole with_chains fails most layout g q → p ≡ q
+one_who_of whole with_chains fails most layout g p q h k =
     let sources : h.0 ≡ k.0 = one_reaching g g.sources h.0 k.0 h.2 k.2 in
     let chains : h.1 ≡ k.1 = one_by_last g 0 h.1 k.1 h.3 k.3 in
-    h.4 ∙ ap (λ (rs : List Reaching). who_printed with_chains fails most layout g rs h.1) sources
-    ∙ ap (λ (cs : List (List ℕ)). who_printed with_chains fails most layout g k.0 cs) chains ∙ sym k.4
+    h.4 ∙ ap (λ (rs : List Reaching). who_printed whole with_chains fails most layout g rs h.1) sources
+    ∙ ap (λ (cs : List (List ℕ)). who_printed whole with_chains fails most layout g k.0 cs) chains ∙ sym k.4
 
 pub one_who : (with_chains fails : Bool) (most : Option ℕ) (q : Question) (listing : Listing) (a b : Printed) → IsWho with_chains fails most q listing a
     → IsWho with_chains fails most q listing b → a ≡ b
 one_who with_chains fails most q listing a b h k =
     one_with_files (layout_of listing) q (sources_at (layout_of listing) q) (headers_at (layout_of listing) q.to)
-    (λ s t r. WithGraph q listing s t (Strict (strays_of q) (IsWhoOf with_chains fails most) (layout_of listing)) r)
-    (λ s t p2 q2 h2 k2. one_with_graph q listing s t (Strict (strays_of q) (IsWhoOf with_chains fails most) (layout_of listing))
-    (λ g p3 q3 h3 k3. one_unless (layout_of listing) (strays_of q g) (IsWhoOf with_chains fails most (layout_of listing) g) p3 q3 (one_who_of with_chains fails most (layout_of listing) g p3 q3) h3 k3) p2 q2 h2 k2)
+    (λ s t r. WithGraph q listing s t (Strict (strays_of q) (IsWhoOf (is_whole q) with_chains fails most) (layout_of listing)) r)
+    (λ s t p2 q2 h2 k2. one_with_graph q listing s t (Strict (strays_of q) (IsWhoOf (is_whole q) with_chains fails most) (layout_of listing))
+    (λ g p3 q3 h3 k3. one_unless (layout_of listing) (strays_of q g) (IsWhoOf (is_whole q) with_chains fails most (layout_of listing) g) p3 q3 (one_who_of (is_whole q) with_chains fails most (layout_of listing) g p3 q3) h3 k3) p2 q2 h2 k2)
     a b h k
 
 pub one_edges : (q : Question) (listing : Listing) (a b : Printed) → IsGraph q listing a → IsGraph q listing b → a ≡ b

@@ -30,9 +30,11 @@ abbrev pub is_computed : BlockerKind → Bool
 is_computed Computed = true
 is_computed _ = false
 
--- the one where macros make the name of a header, and where it is not known which
+-- the one where macros make the name of a header, and where it is not known which, nor whether a file defines it
 abbrev pub any_name_line : List Blocker → List ℕ
-any_name_line bs = if list_any (λ (b : Blocker). is_computed b.kind) bs then undefine_line (codes " --undefined NAME") else []
+any_name_line bs =
+    if list_any (λ (b : Blocker). is_computed b.kind) bs
+    then undefine_line (codes " --undefined NAME; where that is given, cut --format gcc says which file defines it") else []
 
 -- a byte of a path in a glob between apostrophes, where it stands for itself
 abbrev pub glob_byte : ℕ → List ℕ

@@ -1,6 +1,8 @@
 -- Costs and what is printed of them, as the code holds them.
 use Rattle.std.specs.Prelude.{ℕ, ◌<◌, List, length}
 use Rattle.std.specs.List.{All}
+use Rattle.inc_lookup.specs.Projects.{Layout}
+use Rattle.inc_graph.specs.IncludeGraph.{Graph}
 use Rattle.inc_cost.specs.declared.costs.Amounts.{Amounts as AmountsValue}
 use Rattle.inc_report.specs.CostText.{Amounts, Ranked}
 use Rattle.inc_report.specs.declared.cost.Ranked.{Ranked as RankedValue}
@@ -13,6 +15,8 @@ seen_ranked r = record {
   total = r.costs.total;
   brought = seen_amounts r.costs.files;
   headers = r.headers.items;
+  costed = r.groups.costed.items;
+  groups = r.groups.places.items;
   saved = seen_amounts r.costs.edges;
   edges = r.edges.items;
 }
@@ -22,3 +26,9 @@ pub record AreWithin (count : ℕ) (a : AmountsValue) (places : List ℕ) : Type
   pub bytes : All (λ i. i < length a.bytes.items) places
   pub counts : All (λ i. i < length a.counts.items) places
   pub things : All (λ i. i < count) places
+
+-- what is printed is of these files, edges and groups
+pub record IsInside (layout : Layout) (g : Graph) (r : RankedValue) : Type 0 where
+  pub headers : AreWithin (length layout.paths) r.costs.files r.headers.items
+  pub groups : All (λ i. i < length r.groups.costed.items) r.groups.places.items
+  pub edges : AreWithin (length g.edges) r.costs.edges r.edges.items

@@ -16,11 +16,12 @@ use Rattle.inc_check.specs.Certificates.{marks_of, certificate_of}
 use Rattle.inc_check.specs.Texts.{certificate_text}
 use Rattle.inc_report.specs.declared.limits.Hindrance.{Hindrance}
 use Rattle.inc_report.specs.declared.limits.Hindrance.TheVariants as hindrance
+use Rattle.inc_report.specs.MarkReasons.{marks_reason}
 use Rattle.inc_report.specs.MarkTexts.{list_text}
 use Rattle.inc_report.specs.Printed.{Printed, answered_of, negative_of}
 use Rattle.inc_report.specs.Questions.{Answer, IsAnswerBy}
 use Rattle.inc_report.specs.Strictness.{Strict, open_strays_of}
-use Rattle.inc_report.specs.Refusals.{Refusal, Blocked, NoSuchDirective, NoSuchCost, CostTwice, refusal, refusal_for}
+use Rattle.inc_report.specs.Refusals.{Refusal, Blocked, NoSuchDirective, NoSuchCost, CostTwice, refusal_for}
 
 ---- what hinders an answer about cuts
 
@@ -31,18 +32,22 @@ refusal_of_fault marks costs (fixed.NoSuchCost i) = option_map NoSuchCost (slice
 refusal_of_fault marks costs (fixed.CostTwice i) = option_map CostTwice (slice_get (marks_of_costs costs) i)
 refusal_of_fault marks costs fixed.NoMemory = None
 
+-- with what is said beside it
+abbrev pub reasoned : Layout → Graph → List Mark → List Cost → FixedFault → Option (List ℕ × Refusal)
+reasoned layout g marks costs fault = option_map (λ (r : Refusal). (marks_reason layout g marks costs fault, r)) (refusal_of_fault marks costs fault)
+
 -- the refusal of these marks and costs, if they are refused
-abbrev pub marks_refusal : Layout → Graph → List Mark → List Cost → Option Refusal
-marks_refusal layout g marks costs = option_and_then (refusal_of_fault marks costs) (marks_fault layout g marks costs)
+abbrev pub marks_refusal : Layout → Graph → List Mark → List Cost → Option (List ℕ × Refusal)
+marks_refusal layout g marks costs = option_and_then (reasoned layout g marks costs) (marks_fault layout g marks costs)
 
 -- the refusal by all of these, and beside it what they are and how to go on
 abbrev pub blocked : Layout → List Blocker → Printed
 blocked layout bs = refusal_for (blocked_reasons layout bs) (Blocked layout bs)
 
 -- what is printed where no blocker is, and marks and costs are not refused, or the refusal in its place
-abbrev pub Unhindered : Layout → List Blocker → Option Refusal → (Printed → Type 0) → Printed → Type 0
+abbrev pub Unhindered : Layout → List Blocker → Option (List ℕ × Refusal) → (Printed → Type 0) → Printed → Type 0
 Unhindered layout (b ∷ bs) fault Then p = p ≡ blocked layout (b ∷ bs)
-Unhindered layout [] (Some r) Then p = p ≡ refusal r
+Unhindered layout [] (Some r) Then p = p ≡ refusal_for r.0 r.1
 Unhindered layout [] None Then p = Then p
 
 -- with the amounts of the edges, 0 where they are fixed and else what they cost

@@ -1,11 +1,12 @@
 -- Answers as documents: lines that say what is listed, and directives, each with its file and line in front, as compilers and grep print a
 -- place.
-use Rattle.std.specs.Prelude.{ℕ, ◌==◌, List, [], ◌∷◌, ◌++◌, Option, if◌then◌else◌, codes, decimal, flat_map, length, map, is_some, IsTrue}
+use Rattle.std.specs.Prelude.{◌≡◌, ℕ, ◌==◌, false, List, [], ◌∷◌, ◌++◌, Option, None, if◌then◌else◌, codes, decimal, flat_map, length, map, is_some, IsTrue}
 use Rattle.std.specs.List.{All}
 use Rattle.inc_lookup.specs.declared.projects.DirectiveId.{DirectiveId}
 use Rattle.inc_lookup.specs.Projects.{Layout, path_at}
 use Rattle.inc_graph.specs.Cuts.{directives_of}
-use Rattle.inc_graph.specs.IncludeGraph.{Graph}
+use Rattle.inc_graph.specs.IncludeGraph.{Edge, Graph}
+use Rattle.inc_graph.specs.Members.{is_member}
 use Rattle.inc_graph.specs.MissingLists.{Missing}
 use Rattle.inc_graph.specs.declared.graphs.Blocker.{Blocker}
 use Rattle.inc_check.specs.Texts.{line_text}
@@ -82,3 +83,8 @@ pub record AreGraphKept (g : Graph) (kept : Kept) : Type 0 where
   pub edges : AreAllKept g kept
   pub missing : All (λ (m : Missing). IsTrue (is_some (kept_at kept m.file))) g.missing
   pub blockers : All (λ (b : Blocker). IsTrue (is_some (kept_at kept b.file))) g.blockers
+  -- and so is each source, and each file to which an edge leads, but the headers
+  pub sources : All (λ f. is_member f g.headers ≡ false → IsTrue (is_some (kept_at kept f))) g.sources
+  pub targets : All (λ (e : Edge). is_member e.to g.headers ≡ false → IsTrue (is_some (kept_at kept e.to))) g.edges
+  -- of these none is
+  pub headers : All (λ f. kept_at kept f ≡ None) g.headers

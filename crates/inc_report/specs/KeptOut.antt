@@ -32,6 +32,12 @@ AnsweredCutKeepsHeadersOut =
     g.blockers ≡ [] → (fixed : Fixed) (set : List ℕ) → IsSeparating g fixed set →
     KeepsOut setting listing sources headers g set
 
+-- where no chain leads from a source to a header, each header is kept out without removing anything more
+abbrev pub UnreachedIsKeptOut : Type 0
+UnreachedIsKeptOut =
+    (setting : Setting) (listing : Listing) (sources : List Source) (headers : List ℕ) (g : Graph) → IsGraphAnswer setting listing sources headers (Ok g) →
+    g.blockers ≡ [] → IsShortestOrNone g None → KeepsOut setting listing sources headers g []
+
 -- of a graph that is answered without headers and has no blocker: no preprocessing of a source reads a file to which no walk leads from it
 abbrev pub NothingUnreachedIsRead : Type 0
 NothingUnreachedIsRead =

@@ -7,10 +7,14 @@ pub mod ChangeForms
 pub mod ChangeSteps
 pub mod Changes
 pub mod CheckText
+pub mod CostDocument
+pub mod CostGroups
+pub mod CostJson
 pub mod CostText
 pub mod CostViews
 pub mod CutDocument
 pub mod CutText
+pub mod DefinitionPlaces
 pub mod DirectiveNames
 pub mod Documents
 pub mod DotText
@@ -28,6 +32,7 @@ pub mod KeptFiles
 pub mod KeptOut
 pub mod Known
 pub mod MakeRules
+pub mod MarkReasons
 pub mod MarkTexts
 pub mod MissingNames
 pub mod MissingNotes
@@ -60,6 +65,8 @@ pub mod StopReasons
 pub mod Strictness
 pub mod Terms
 pub mod Told
+pub mod UsefulDirs
+pub mod UsefulViews
 pub mod Views
 pub mod WhoDocument
 pub mod WhoText

@@ -1,12 +1,16 @@
 -- The notes on headers that are not found: how many directives name one, the names most often named, where each is named first, and with
--- which directory in the include path a file of the project would be found by it.
-use Rattle.std.specs.Prelude.{ℕ, ◌+◌, ◌-◌, ◌/◌, ◌%◌, ◌++◌, ◌==◌, ◌&&◌, List, [], ◌∷◌, Option, Some, None, if◌then◌else◌, bytes_eq, codes, decimal, drop, flat_map, length, nat_lt, take}
+-- which directory in the include path a file of the project would be found by it; and with which directories most of them would be found.
+-- And the note that no configuration leads to a header.
+use Rattle.std.specs.Prelude.{ℕ, Bool, ◌+◌, ◌-◌, ◌/◌, ◌%◌, ◌++◌, ◌==◌, ◌&&◌, List, [], ◌∷◌, Option, Some, None, if◌then◌else◌, bytes_eq, codes, decimal, drop, flat_map, length, nat_lt, take}
 use Rattle.std.specs.Option.{option_map_or}
 use Rattle.inc_text.specs.Ascii.{slash}
 use Rattle.inc_lookup.specs.Projects.{Layout, path_at}
+use Rattle.inc_graph.specs.declared.graphs.Blocker.{Blocker}
 use Rattle.inc_graph.specs.MissingLists.{Missing}
 use Rattle.inc_report.specs.MissingNames.{MissingName, missing_names, ranked, spelled}
+use Rattle.inc_report.specs.UsefulDirs.{Best, best_dirs}
 use Rattle.inc_report.specs.declared.missing_names.TheConstants.{MOST_NAMES}
+use Rattle.inc_report.specs.declared.useful_dirs.TheConstants.{LEAST_FOUND}
 
 ---- texts on one line
 
@@ -67,6 +71,25 @@ more_note n = if n == 0 then [] else note_start ++ codes ".. and " ++ decimal n 
 abbrev pub names_note : Layout → List MissingName → List ℕ
 names_note layout names = flat_map (name_note layout) (take MOST_NAMES (ranked names)) ++ more_note (length names - MOST_NAMES)
 
+-- how many names would be found with a directory
+abbrev pub dir_line : (dir : List ℕ) → (count : ℕ) → List ℕ
+dir_line dir count = note_start ++ codes "-I " ++ shown dir ++ codes " would find " ++ decimal count ++ codes " of the missing headers" ++ 10 ∷ []
+
+-- if that is enough
+abbrev pub useful_line : List ℕ × ℕ → List ℕ
+useful_line d = if nat_lt d.1 LEAST_FOUND then [] else dir_line d.0 d.1
+
+abbrev pub best_lines : Best → List ℕ
+best_lines b = useful_line b.first ++ useful_line b.second ++ useful_line b.third
+
+-- the directories with which most names would be found
+abbrev pub useful_note : (paths : List (List ℕ)) → List Missing → List ℕ
+useful_note paths ms = best_lines (best_dirs paths ms)
+
+-- what is noted of directives whose header is not found
+abbrev pub missing_note : Layout → List Missing → List ℕ
+missing_note layout ms = names_note layout (missing_names ms) ++ useful_note layout.paths ms
+
 -- what follows the number of directives, where the answer takes them as empty
 abbrev pub empty_words : ℕ → List ℕ
 empty_words n =
@@ -88,9 +111,19 @@ unreached_line n = note_start ++ codes "not reached, but " ++ decimal n ++ unrea
 -- the notes beside an answer that takes headers that are not found as empty; none where each is found
 abbrev pub empty_notes : Layout → List Missing → List ℕ
 empty_notes layout [] = []
-empty_notes layout (m ∷ ms) = empty_line (length (m ∷ ms)) ++ names_note layout (missing_names (m ∷ ms))
+empty_notes layout (m ∷ ms) = empty_line (length (m ∷ ms)) ++ missing_note layout (m ∷ ms)
 
--- the notes beside the answer that no header is reached; none where each is found
-abbrev pub unreached_notes : Layout → List Missing → List ℕ
-unreached_notes layout [] = []
-unreached_notes layout (m ∷ ms) = unreached_line (length (m ∷ ms)) ++ names_note layout (missing_names (m ∷ ms))
+-- the line that no configuration leads to a header
+abbrev pub never_line : List ℕ
+never_line = note_start ++ codes "not reached under any configuration" ++ 10 ∷ []
+
+-- it stands where nothing can be said of no directive, and the files are read as they are: with no directive taken as removed, and no name
+-- as undefined
+abbrev pub never_note : (whole : Bool) → List Blocker → List ℕ
+never_note whole [] = if whole then never_line else []
+never_note whole (b ∷ bs) = []
+
+-- the notes beside the answer that no header is reached: on headers that are not found, or this one where each is found
+abbrev pub unreached_notes : (whole : Bool) → Layout → List Blocker → List Missing → List ℕ
+unreached_notes whole layout bs [] = never_note whole bs
+unreached_notes whole layout bs (m ∷ ms) = unreached_line (length (m ∷ ms)) ++ missing_note layout (m ∷ ms)

@@ -1,6 +1,6 @@
 -- Why an answer about cuts is refused where blockers are whose directives are known: what each of them is and how it is written, and how to
 -- go on.
-use Rattle.std.specs.Prelude.{ℕ, ◌||◌, Bool, false, not, List, [], ◌∷◌, ◌++◌, Option, Some, None, if◌then◌else◌, codes, filter, filter_map, flat_map}
+use Rattle.std.specs.Prelude.{ℕ, ◌||◌, Bool, false, not, List, [], ◌∷◌, ◌++◌, Option, Some, None, if◌then◌else◌, codes, filter, filter_map, flat_map, option_and_then}
 use Rattle.std.specs.Option.{option_map_or}
 use Rattle.inc_text.specs.declared.languages.Language.{Language}
 use Rattle.inc_macro.specs.Macros.{is_among, is_reserved}
@@ -14,6 +14,7 @@ use Rattle.inc_graph.specs.declared.graphs.BlockerKind.TheVariants.{Foreign}
 use Rattle.inc_report.specs.BlockedReasons.{blocker_reason_words, reasons_by, undefine_line}
 use Rattle.inc_report.specs.DirectiveNames.{written}
 use Rattle.inc_report.specs.FaultReasons.{reason_line}
+use Rattle.inc_report.specs.MarkReasons.{place}
 use Rattle.inc_report.specs.MissingNotes.{shown}
 
 -- the directive of a blocker
@@ -26,10 +27,18 @@ directive_of b = record { file = b.file; line = b.line }
 abbrev pub is_made_by : (names : List (List ℕ)) → LineKind → Bool
 is_made_by names kind = option_map_or (λ name. is_among name names) (name_in kind) false
 
+-- where that name is defined
+abbrev pub made_place : (definition : List ℕ → Option DirectiveId) → LineKind → Option DirectiveId
+made_place definition kind = option_and_then definition (name_in kind)
+
+-- that a file defines it, and where
+abbrev pub definition_words : Layout → Option DirectiveId → List ℕ
+definition_words layout None = codes "a file defines the name that makes the header"
+definition_words layout (Some d) = place (path_at layout d.file) d.line ++ codes " defines the name that makes the header"
+
 -- what a blocker is; one by a name that no build defines is one since a file does
-abbrev pub named_words : (undefined : List (List ℕ)) → LineKind → BlockerKind → List ℕ
-named_words undefined kind b =
-    if is_made_by undefined kind then codes "a file defines the name that makes the header" else blocker_reason_words b
+abbrev pub named_words : (undefined : List (List ℕ)) → Layout → Option DirectiveId → LineKind → BlockerKind → List ℕ
+named_words undefined layout definition kind b = if is_made_by undefined kind then definition_words layout definition else blocker_reason_words b
 
 -- behind a colon, if there is something
 abbrev pub behind_colon : List ℕ → List ℕ
@@ -41,12 +50,18 @@ abbrev pub written_end : LineKind → BlockerKind → List ℕ
 written_end kind Foreign = []
 written_end kind _ = behind_colon (shown (written kind))
 
--- the line on a blocker whose directive is this
-abbrev pub kind_reason : (undefined : List (List ℕ)) → Layout → LineKind → Blocker → List ℕ
-kind_reason undefined layout kind b = reason_line (path_at layout b.file) b.line (named_words undefined kind b.kind ++ written_end kind b.kind)
+-- the line on a blocker whose directive is this, and whose name is defined there
+abbrev pub kind_reason : (undefined : List (List ℕ)) → Layout → Option DirectiveId → LineKind → Blocker → List ℕ
+kind_reason undefined layout definition kind b =
+    reason_line (path_at layout b.file) b.line (named_words undefined layout definition kind b.kind ++ written_end kind b.kind)
 
-abbrev pub named_reason : (undefined : List (List ℕ)) → (kind : DirectiveId → LineKind) → Layout → Blocker → List ℕ
-named_reason undefined kind layout b = kind_reason undefined layout (kind (directive_of b)) b
+-- what is seen of the files of a graph: what a directive is, and where they define a name first
+pub record Sight : Type 0 where
+  pub kind : DirectiveId → LineKind
+  pub definition : (name : List ℕ) → Option DirectiveId
+
+abbrev pub named_reason : (undefined : List (List ℕ)) → Sight → Layout → Blocker → List ℕ
+named_reason undefined sight layout b = kind_reason undefined layout (made_place sight.definition (sight.kind (directive_of b))) (sight.kind (directive_of b)) b
 
 ---- names that a build may leave undefined
 
@@ -75,6 +90,6 @@ names_line (n ∷ ns) = undefine_line (flat_map undefined_word (n ∷ ns))
 
 ---- what is said beside the refusal
 
-abbrev pub named_reasons : Language → (undefined : List (List ℕ)) → (kind : DirectiveId → LineKind) → Layout → List Blocker → List ℕ
-named_reasons language undefined kind layout bs =
-    reasons_by (named_reason undefined kind layout) (λ firsts. names_line (open_names language undefined kind firsts)) layout bs
+abbrev pub named_reasons : Language → (undefined : List (List ℕ)) → Sight → Layout → List Blocker → List ℕ
+named_reasons language undefined sight layout bs =
+    reasons_by (named_reason undefined sight layout) (λ firsts. names_line (open_names language undefined sight.kind firsts)) layout bs

@@ -1,6 +1,6 @@
 -- The answers in which directives stand as they are written, and how these are written: as lines, as an object of JSON, or as
 -- a graph to draw.
-use Rattle.std.specs.Prelude.{◌≡◌, ◌≢◌, ◌⊎◌, ℕ, Bool, true, false, List, [], ◌++◌, Option, Some, None, codes, flat_map}
+use Rattle.std.specs.Prelude.{◌≡◌, ◌≢◌, ◌⊎◌, ℕ, Bool, true, false, List, [], ◌++◌, Option, Some, None, codes, flat_map, length}
 use Rattle.std.specs.List.{concat}
 use Rattle.inc_text.specs.declared.languages.Language.{Language}
 use Rattle.inc_lookup.specs.declared.projects.DirectiveId.{DirectiveId}
@@ -10,17 +10,23 @@ use Rattle.inc_directive.specs.LineKinds.{LineKind}
 use Rattle.inc_graph.specs.Cuts.{Counted}
 use Rattle.inc_graph.specs.IncludeGraph.{Graph}
 use Rattle.inc_rules.specs.Judging.{AreJudged, Judged}
+use Rattle.inc_report.specs.CostDocument.{cost_document}
+use Rattle.inc_report.specs.CostJson.{cost_json}
+use Rattle.inc_report.specs.CostText.{IsRanked, Ranked}
 use Rattle.inc_report.specs.CutDocument.{cut_document, fixed_document, has_costs}
 use Rattle.inc_report.specs.CutText.{Unhindered, WithAmounts, marks_refusal}
+use Rattle.inc_report.specs.DefinitionPlaces.{given_place, kept_place}
 use Rattle.inc_report.specs.DirectiveNames.{kept_kind, kind_of, written}
 use Rattle.inc_report.specs.Documents.{Block, document_text}
 use Rattle.inc_report.specs.DotText.{Drawn, all_drawn, dot_text, drawn}
+use Rattle.inc_report.specs.FileSizes.{file_sizes}
 use Rattle.inc_report.specs.GraphDocument.{graph_document}
 use Rattle.inc_report.specs.JsonAnswers.{About, cut_json, fixed_json, graph_json, who_json, why_json}
 use Rattle.inc_report.specs.JsonRefusals.{refusal_json}
-use Rattle.inc_report.specs.KeptFiles.{OfKept}
-use Rattle.inc_report.specs.NamedReasons.{named_reasons}
-use Rattle.inc_report.specs.Printed.{Printed, end_of, refused_for}
+use Rattle.inc_report.specs.KeptFiles.{Kept, OfKept}
+use Rattle.inc_report.specs.MissingNotes.{empty_notes}
+use Rattle.inc_report.specs.NamedReasons.{Sight, named_reasons}
+use Rattle.inc_report.specs.Printed.{Printed, answered_of, end_of, refused_for}
 use Rattle.inc_report.specs.Questions as questions
 use Rattle.inc_report.specs.Questions.{IsAnswerBy}
 use Rattle.inc_report.specs.Refusals.{Blocked, NotFound, Refusal, refusal_for, refusal_text}
@@ -28,7 +34,7 @@ use Rattle.inc_report.specs.RulesDocument.{all_chains, rules_document}
 use Rattle.inc_report.specs.RulesJson.{rules_json}
 use Rattle.inc_report.specs.RulesText.{rules_kind}
 use Rattle.inc_report.specs.Strictness.{Strict, asked_strays_of}
-use Rattle.inc_report.specs.Terms.{Question, Details, Limits, RuleList}
+use Rattle.inc_report.specs.Terms.{CostWords, Question, Details, Limits, RuleList, is_whole}
 use Rattle.inc_report.specs.Told.{Answer, Chains, Sources, Edges, Removed, FixedChain, IsAnswerOf, end_kind, notes_of}
 use Rattle.inc_report.specs.WhoDocument.{who_document}
 use Rattle.inc_report.specs.WhyDocument.{why_document}
@@ -89,9 +95,9 @@ abbrev pub about : Language → Listing → Layout → Graph → About
 about language listing layout g = record { layout = layout; graph = g; kind = kind_of language listing }
 
 -- it is printed so, and the call ends so
-abbrev pub printed_answer : NamedForm → (costed : Bool) → (amounts : List ℕ) → About → Answer → Printed
-printed_answer form costed amounts a answer =
-    record { text = answer_text form costed amounts a answer; end = end_of (notes_of a.layout a.graph answer) (end_kind form.fails answer) }
+abbrev pub printed_answer : (whole : Bool) → NamedForm → (costed : Bool) → (amounts : List ℕ) → About → Answer → Printed
+printed_answer whole form costed amounts a answer =
+    record { text = answer_text form costed amounts a answer; end = end_of (notes_of whole a.layout a.graph answer) (end_kind form.fails answer) }
 
 ---- a refusal in each format
 
@@ -101,11 +107,13 @@ command_name Who = codes "who"
 command_name ask.Graph = codes "graph"
 command_name Cut = codes "cut"
 command_name ask.Rules = codes "rules"
+command_name ask.Cost = codes "cost"
 
 -- whether it is about headers, too
 abbrev pub asks_headers : Asked → Bool
 asks_headers ask.Graph = false
 asks_headers ask.Rules = false
+asks_headers ask.Cost = false
 asks_headers _ = true
 
 -- as a text, or as an object
@@ -114,9 +122,9 @@ refused_text form kind r =
     elim form.format [ Gcc ↦ refusal_text r | Json ↦ refusal_json (command_name form.asked) kind r | Dot ↦ refusal_text r ]
 
 -- the reason beside it: that of blockers says how their directives are written
-abbrev pub reason_in : Question → (kind : DirectiveId → LineKind) → (reason : List ℕ) → Refusal → List ℕ
-reason_in q kind reason (Blocked layout bs) = named_reasons q.language q.undefined kind layout bs
-reason_in q kind reason _ = reason
+abbrev pub reason_in : Question → Sight → (reason : List ℕ) → Refusal → List ℕ
+reason_in q sight reason (Blocked layout bs) = named_reasons q.language q.undefined sight layout bs
+reason_in q sight reason _ = reason
 
 -- the files whose directives it names are those of this layout
 abbrev pub IsOfLayout : Layout → Refusal → Type 0
@@ -125,24 +133,24 @@ IsOfLayout layout (NotFound own ms) = own ≡ layout
 IsOfLayout layout _ = Unit {0}
 
 -- the refusal that would be printed as text is printed so
-abbrev pub IsRefused : NamedForm → Question → Layout → (kind : DirectiveId → LineKind) → (plain : Printed) → Printed → Type 0
-IsRefused form q layout kind plain p =
+abbrev pub IsRefused : NamedForm → Question → Layout → Sight → (plain : Printed) → Printed → Type 0
+IsRefused form q layout sight plain p =
     (reason : List ℕ) × (r : Refusal) × IsOfLayout layout r × (plain ≡ refusal_for reason r)
-    × (p ≡ refused_for (reason_in q kind reason r) (refused_text form kind r))
+    × (p ≡ refused_for (reason_in q sight reason r) (refused_text form sight.kind r))
 
 -- what is printed in a format where this would be printed as text, or is an answer that is in the format
-abbrev pub IsInFormat : NamedForm → Question → Layout → (kind : DirectiveId → LineKind) → (plain : Printed) → Printed → Type 0
-IsInFormat form q layout kind plain p = IsRefused form q layout kind plain p ⊎ (plain.end.kind ≢ Refused) × (p ≡ plain)
+abbrev pub IsInFormat : NamedForm → Question → Layout → Sight → (plain : Printed) → Printed → Type 0
+IsInFormat form q layout sight plain p = IsRefused form q layout sight plain p ⊎ (plain.end.kind ≢ Refused) × (p ≡ plain)
 
 ---- what is printed
 
--- of a graph whose edges have these amounts
-abbrev pub IsReport : Asked → NamedForm → (costed : Bool) → About → (amounts : List ℕ) → Printed → Type 0
-IsReport asked form costed a amounts p = (answer : Answer) × IsAnswerOf asked a.graph amounts answer × (p ≡ printed_answer form costed amounts a answer)
+-- of a graph whose edges have these amounts, of files that are read as they are or not
+abbrev pub IsReport : (whole : Bool) → Asked → NamedForm → (costed : Bool) → About → (amounts : List ℕ) → Printed → Type 0
+IsReport whole asked form costed a amounts p = (answer : Answer) × IsAnswerOf asked a.graph amounts answer × (p ≡ printed_answer whole form costed amounts a answer)
 
 -- the same of a graph whose directives are those of a listing
-abbrev pub IsReportOf : Asked → NamedForm → (costed : Bool) → Language → Listing → Layout → Graph → (amounts : List ℕ) → Printed → Type 0
-IsReportOf asked form costed language listing layout g amounts p = IsReport asked form costed (about language listing layout g) amounts p
+abbrev pub IsReportOf : (whole : Bool) → Asked → NamedForm → (costed : Bool) → Language → Listing → Layout → Graph → (amounts : List ℕ) → Printed → Type 0
+IsReportOf whole asked form costed language listing layout g amounts p = IsReport whole asked form costed (about language listing layout g) amounts p
 
 -- of rules, the edges of all their chains are drawn
 abbrev pub rules_answer : Format → (name : List ℕ) → About → List Judged → List ℕ
@@ -156,50 +164,84 @@ rules_report form name a js = record { text = rules_answer form.format name a js
 abbrev pub IsRuleReport : NamedForm → RuleList → About → Printed → Type 0
 IsRuleReport form l a p = (js : List Judged) × AreJudged a.layout a.graph l.rules js × (p ≡ rules_report form l.name a js)
 
--- of a graph: limits and amounts count of a cut alone, and a list of rules where these are asked about
-abbrev pub IsNamedAs : Asked → NamedForm → Details → Language → Listing → questions.Answer
-IsNamedAs Cut form d language listing layout g p = WithAmounts d.limits (IsReportOf Cut form (has_costs d.limits.costs) language listing) layout g p
-IsNamedAs ask.Rules form d language listing layout g p = IsRuleReport form d.rules (about language listing layout g) p
-IsNamedAs asked form d language listing layout g p = IsReportOf asked form false language listing layout g [] p
+-- of costs, the edges that are printed are drawn
+abbrev pub cost_answer : Format → About → Ranked → List ℕ
+cost_answer Gcc a r = document_text (λ d. written (a.kind d)) a.layout (cost_document a.layout a.graph r)
+cost_answer Json a r = cost_json a r
+cost_answer Dot a r = dot_text a.layout a.graph (drawn r.edges [] None)
 
-abbrev pub IsNamedOf : NamedForm → Details → Language → Listing → questions.Answer
-IsNamedOf form d language listing = IsNamedAs form.asked form d language listing
+abbrev pub cost_report : NamedForm → About → Ranked → Printed
+cost_report form a r = answered_of (empty_notes a.layout a.graph.missing) (cost_answer form.format a r)
+
+abbrev pub IsCostReport : NamedForm → CostWords → (weights : List ℕ) → About → Printed → Type 0
+IsCostReport form w weights a p = (r : Ranked) × IsRanked weights w.most w.groups a.layout a.graph r × (p ≡ cost_report form a r)
+
+-- of a graph: limits and amounts count of a cut alone, a list of rules where these are asked about, and how much is printed of costs
+abbrev pub IsNamedAs : (whole : Bool) → Asked → NamedForm → Details → Language → Listing → questions.Answer
+IsNamedAs whole Cut form d language listing layout g p = WithAmounts d.limits (IsReportOf whole Cut form (has_costs d.limits.costs) language listing) layout g p
+IsNamedAs whole ask.Rules form d language listing layout g p = IsRuleReport form d.rules (about language listing layout g) p
+IsNamedAs whole ask.Cost form d language listing layout g p = IsCostReport form d.costs (file_sizes listing g.headers) (about language listing layout g) p
+IsNamedAs whole asked form d language listing layout g p = IsReportOf whole asked form false language listing layout g [] p
+
+abbrev pub IsNamedOf : (whole : Bool) → NamedForm → Details → Language → Listing → questions.Answer
+IsNamedOf whole form d language listing = IsNamedAs whole form.asked form d language listing
 
 -- or the refusal of directives whose header is not found
 abbrev pub IsStrictOf : NamedForm → Question → Details → Language → Listing → questions.Answer
-IsStrictOf form q d language listing = Strict (asked_strays_of form.asked q) (IsNamedOf form d language listing)
+IsStrictOf form q d language listing = Strict (asked_strays_of form.asked q) (IsNamedOf (is_whole q) form d language listing)
+
+-- what is seen of the files that were read: directives by a listing, and where names are defined by what was given of them
+abbrev pub given_sight : Language → Listing → Layout → List Given → Sight
+given_sight language listing layout given = record {
+  kind = kind_of language listing;
+  definition = given_place language given (length layout.paths);
+}
 
 -- of a question, and which files are read for that
 abbrev pub IsNamedBy : NamedForm → Question → Details → Printed → List Given → Listing → Type 0
 IsNamedBy form q d p given listing =
-    (plain : Printed) × IsAnswerBy (IsStrictOf form q d q.language listing) q plain given listing × IsInFormat form q (layout_of listing) (kind_of q.language listing) plain p
+    (plain : Printed) × IsAnswerBy (IsStrictOf form q d q.language listing) q plain given listing × IsInFormat form q (layout_of listing) (given_sight q.language listing (layout_of listing) given) plain p
 
 ---- by what is kept of the files
 
 -- printed in this format where this would be printed as text, whatever the question is, and the directives of files are
 abbrev pub IsInAnyFormat : NamedForm → (plain : Printed) → Printed → Type 0
-IsInAnyFormat form plain p = (q : Question) (layout : Layout) (kind : DirectiveId → LineKind) → IsInFormat form q layout kind plain p
+IsInAnyFormat form plain p = (q : Question) (layout : Layout) (sight : Sight) → IsInFormat form q layout sight plain p
+
+-- what is seen of the files by what is kept of them
+abbrev pub kept_sight : Language → Listing → Layout → Kept → Sight
+kept_sight language listing layout kept = record {
+  kind = kind_of language listing;
+  definition = kept_place language kept (length layout.paths);
+}
 
 -- of a graph and the files that are kept of it
 abbrev pub IsNamedKept : NamedForm → Question → Details → Subject → Printed → Type 0
 IsNamedKept form q d s p =
     (plain : Printed) × OfKept s.files.now s.project.now (λ listing.
-    IsNamedOf form d s.language listing s.project.now s.graph.now plain × IsInFormat form q s.project.now (kind_of s.language listing) plain p)
+    IsNamedOf (is_whole q) form d s.language listing s.project.now s.graph.now plain × IsInFormat form q s.project.now (kept_sight s.language listing s.project.now s.files.now) plain p)
 
 -- the same of a question
 abbrev pub IsStrictKept : NamedForm → Question → Details → Subject → Printed → Type 0
 IsStrictKept form q d s p =
     (plain : Printed) × OfKept s.files.now s.project.now (λ listing.
-    IsStrictOf form q d s.language listing s.project.now s.graph.now plain × IsInFormat form q s.project.now (kind_of s.language listing) plain p)
+    IsStrictOf form q d s.language listing s.project.now s.graph.now plain × IsInFormat form q s.project.now (kept_sight s.language listing s.project.now s.files.now) plain p)
 
 -- of what hinders a cut
 abbrev pub IsHinderedKept : NamedForm → Question → Limits → Subject → Printed → Type 0
 IsHinderedKept form q l s p =
     (plain : Printed) × Unhindered s.project.now s.graph.now.blockers (marks_refusal s.project.now s.graph.now l.fixed l.costs) (λ r. ⊥) plain
-    × OfKept s.files.now s.project.now (λ listing. IsInFormat form q s.project.now (kind_of s.language listing) plain p)
+    × OfKept s.files.now s.project.now (λ listing. IsInFormat form q s.project.now (kept_sight s.language listing s.project.now s.files.now) plain p)
+
+-- by what is kept of them alone
+abbrev pub sight_kept : Language → Layout → Kept → Sight
+sight_kept language layout kept = record {
+  kind = kept_kind language kept;
+  definition = kept_place language kept (length layout.paths);
+}
 
 -- the refusal of a cut by all blockers of a graph
 abbrev pub blocked_as : NamedForm → Question → Subject → Printed
 blocked_as form q s =
-    refused_for (named_reasons q.language q.undefined (kept_kind s.language s.files.now) s.project.now s.graph.now.blockers)
+    refused_for (named_reasons q.language q.undefined (sight_kept s.language s.project.now s.files.now) s.project.now s.graph.now.blockers)
     (refused_text form (kept_kind s.language s.files.now) (Blocked s.project.now s.graph.now.blockers))

@@ -1,8 +1,9 @@
 -- What is asked of a project.
-use Rattle.std.specs.Prelude.{ℕ, Bool, List, [], Option, filter_map, option_map}
+use Rattle.std.specs.Prelude.{ℕ, ◌==◌, Bool, ◌&&◌, List, [], Option, filter_map, length, option_map}
 use Rattle.inc_text.specs.declared.languages.Language.{Language}
 use Rattle.inc_lookup.specs.declared.projects.DirectiveId.{DirectiveId}
 use Rattle.inc_lookup.specs.Projects.{Layout, SearchPath, place_of}
+use Rattle.inc_cost.specs.Costs.{Group}
 use Rattle.inc_graph.specs.Marks.{Mark, Cost}
 use Rattle.inc_graph.specs.Settings.{Setting, setting_of, with_paths}
 use Rattle.inc_pp.specs.Settings.{Settings}
@@ -30,6 +31,10 @@ pub record Question : Type 0 where
   -- but those of headers whose names these globs fit
   pub external : List (List ℕ)
 
+-- the files are read as they are: no directive is taken as removed, and no name as undefined
+abbrev pub is_whole : Question → Bool
+is_whole q = (length q.without == 0) && (length q.undefined == 0)
+
 -- what limits a cut
 pub record Limits : Type 0 where
   -- the marks of the directives that may not be removed
@@ -47,10 +52,16 @@ pub record RuleList : Type 0 where
 abbrev pub no_rules : RuleList
 no_rules = record { name = []; rules = [] }
 
--- what an answer goes by beside its graph: what limits a cut, and the rules that are asked about
+-- how much is printed of what includes cost: at most so many headers, and as many directives, and these groups of headers
+pub record CostWords : Type 0 where
+  pub most : ℕ
+  pub groups : List Group
+
+-- what an answer goes by beside its graph: what limits a cut, the rules that are asked about, and how much is asked about costs
 pub record Details : Type 0 where
   pub limits : Limits
   pub rules : RuleList
+  pub costs : CostWords
 
 -- sources that are to be preprocessed
 pub record PpQuestion : Type 0 where

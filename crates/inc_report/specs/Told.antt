@@ -44,13 +44,13 @@ end_kind fails Edges = Answered
 end_kind fails (Removed set chains) = Answered
 end_kind fails (FixedChain chain) = Negative
 
--- what is noted beside it: of headers that are not found
-abbrev pub notes_of : Layout → Graph → Answer → List ℕ
-notes_of layout g (Chains shortest chains) = why_notes layout g shortest
-notes_of layout g (Sources reaching chains) = who_notes layout g reaching
-notes_of layout g Edges = []
-notes_of layout g (Removed set chains) = empty_notes layout g.missing
-notes_of layout g (FixedChain chain) = empty_notes layout g.missing
+-- what is noted beside it, of files that are read as they are or not: of headers that are not found, or that no configuration leads to one
+abbrev pub notes_of : (whole : Bool) → Layout → Graph → Answer → List ℕ
+notes_of whole layout g (Chains shortest chains) = why_notes whole layout g shortest
+notes_of whole layout g (Sources reaching chains) = who_notes whole layout g reaching
+notes_of whole layout g Edges = []
+notes_of whole layout g (Removed set chains) = empty_notes layout g.missing
+notes_of whole layout g (FixedChain chain) = empty_notes layout g.missing
 
 -- what is printed of a text that is made
 abbrev pub told_printed : declared.Told → Printed

@@ -1,6 +1,6 @@
 -- The text that `who` prints: which sources reach a header.
 use Rattle.std.specs.Prelude.{◌≡◌, ℕ, Bool, true, false, List, [], ◌∷◌, ◌++◌, Option, length, flat_map, codes}
-use Rattle.inc_report.specs.Terms.{Question}
+use Rattle.inc_report.specs.Terms.{Question, is_whole}
 use Rattle.inc_lookup.specs.Given.{Given}
 use Rattle.inc_lookup.specs.Projects.{Layout, Listing, path_at}
 use Rattle.inc_graph.specs.Chains.{AreChainsByLast}
@@ -36,10 +36,10 @@ sources_text with_chains most layout g reaching =
 abbrev pub who_text : (with_chains : Bool) → (most : Option ℕ) → Layout → Graph → List Reaching → List (List ℕ) → List ℕ
 who_text with_chains most layout g reaching chains = sources_text with_chains most layout g reaching ++ ways_text most layout g chains
 
--- what is noted beside it: of headers that are not found, where no source reaches a header
-abbrev pub who_notes : Layout → Graph → List Reaching → List ℕ
-who_notes layout g [] = unreached_notes layout g.missing
-who_notes layout g (r ∷ rs) = []
+-- what is noted beside it where no source reaches a header: of headers that are not found, or that no configuration leads to one
+abbrev pub who_notes : (whole : Bool) → Layout → Graph → List Reaching → List ℕ
+who_notes whole layout g [] = unreached_notes whole layout g.blockers g.missing
+who_notes whole layout g (r ∷ rs) = []
 
 -- the call ends so
 abbrev pub who_kind : (fails : Bool) → List Reaching → EndKind
@@ -47,20 +47,20 @@ who_kind fails [] = Answered
 who_kind fails (r ∷ rs) = reached_kind fails
 
 -- with this text, and so
-abbrev pub who_printed : (with_chains fails : Bool) → (most : Option ℕ) → Layout → Graph → List Reaching → List (List ℕ) → Printed
-who_printed with_chains fails most layout g reaching chains =
-    record { text = who_text with_chains most layout g reaching chains; end = end_of (who_notes layout g reaching) (who_kind fails reaching) }
+abbrev pub who_printed : (whole with_chains fails : Bool) → (most : Option ℕ) → Layout → Graph → List Reaching → List (List ℕ) → Printed
+who_printed whole with_chains fails most layout g reaching chains =
+    record { text = who_text with_chains most layout g reaching chains; end = end_of (who_notes whole layout g reaching) (who_kind fails reaching) }
 
--- what `who` prints of a graph
-abbrev pub IsWhoOf : (with_chains fails : Bool) → (most : Option ℕ) → Answer
-IsWhoOf with_chains fails most layout g p =
+-- what `who` prints of a graph, of files that are read as they are or not
+abbrev pub IsWhoOf : (whole with_chains fails : Bool) → (most : Option ℕ) → Answer
+IsWhoOf whole with_chains fails most layout g p =
     (reaching : List Reaching) × (chains : List (List ℕ)) × AreReaching g g.sources reaching × AreChainsByLast g 0 chains
-    × (p ≡ who_printed with_chains fails most layout g reaching chains)
+    × (p ≡ who_printed whole with_chains fails most layout g reaching chains)
 
 -- what `who` prints
 abbrev pub IsWho : (with_chains fails : Bool) → (most : Option ℕ) → Question → Listing → Printed → Type 0
-IsWho with_chains fails most q listing p = IsAnswer (Strict (strays_of q) (IsWhoOf with_chains fails most)) q listing p
+IsWho with_chains fails most q listing p = IsAnswer (Strict (strays_of q) (IsWhoOf (is_whole q) with_chains fails most)) q listing p
 
 -- and which files are read for that
 abbrev pub IsWhoBy : (with_chains fails : Bool) → (most : Option ℕ) → Question → Printed → List Given → Listing → Type 0
-IsWhoBy with_chains fails most q p given listing = IsAnswerBy (Strict (strays_of q) (IsWhoOf with_chains fails most)) q p given listing
+IsWhoBy with_chains fails most q p given listing = IsAnswerBy (Strict (strays_of q) (IsWhoOf (is_whole q) with_chains fails most)) q p given listing

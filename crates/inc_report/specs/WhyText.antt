@@ -1,6 +1,6 @@
 -- The text that `why` prints: how a header reaches a source.
 use Rattle.std.specs.Prelude.{◌≡◌, ℕ, Bool, List, [], ◌++◌, Option, Some, None, length, map, option_map, codes}
-use Rattle.inc_report.specs.Terms.{Question}
+use Rattle.inc_report.specs.Terms.{Question, is_whole}
 use Rattle.inc_lookup.specs.Given.{Given}
 use Rattle.inc_lookup.specs.Projects.{Layout, Listing}
 use Rattle.inc_graph.specs.Chains.{IsShortestOrNone, AreChainsByLast}
@@ -35,10 +35,10 @@ ways_text most layout g chains = chains_text most (map (marks_of layout g) chain
 abbrev pub why_text : (most : Option ℕ) → Layout → Graph → Option (List ℕ) → List (List ℕ) → List ℕ
 why_text most layout g shortest chains = shortest_text (option_map (marks_of layout g) shortest) ++ ways_text most layout g chains
 
--- what is noted beside it: of headers that are not found, where there is no chain
-abbrev pub why_notes : Layout → Graph → Option (List ℕ) → List ℕ
-why_notes layout g None = unreached_notes layout g.missing
-why_notes layout g (Some chain) = []
+-- what is noted beside it where there is no chain: of headers that are not found, or that no configuration leads to the header
+abbrev pub why_notes : (whole : Bool) → Layout → Graph → Option (List ℕ) → List ℕ
+why_notes whole layout g None = unreached_notes whole layout g.blockers g.missing
+why_notes whole layout g (Some chain) = []
 
 -- the call ends so
 abbrev pub why_kind : (fails : Bool) → Option (List ℕ) → EndKind
@@ -46,20 +46,20 @@ why_kind fails None = Answered
 why_kind fails (Some chain) = reached_kind fails
 
 -- with this text, and so
-abbrev pub why_printed : (fails : Bool) → (most : Option ℕ) → Layout → Graph → Option (List ℕ) → List (List ℕ) → Printed
-why_printed fails most layout g shortest chains =
-    record { text = why_text most layout g shortest chains; end = end_of (why_notes layout g shortest) (why_kind fails shortest) }
+abbrev pub why_printed : (whole fails : Bool) → (most : Option ℕ) → Layout → Graph → Option (List ℕ) → List (List ℕ) → Printed
+why_printed whole fails most layout g shortest chains =
+    record { text = why_text most layout g shortest chains; end = end_of (why_notes whole layout g shortest) (why_kind fails shortest) }
 
--- what `why` prints of a graph
-abbrev pub IsWhyOf : (fails : Bool) → (most : Option ℕ) → Answer
-IsWhyOf fails most layout g p =
+-- what `why` prints of a graph, of files that are read as they are or not
+abbrev pub IsWhyOf : (whole fails : Bool) → (most : Option ℕ) → Answer
+IsWhyOf whole fails most layout g p =
     (shortest : Option (List ℕ)) × (chains : List (List ℕ)) × IsShortestOrNone g shortest × AreChainsByLast g 0 chains
-    × (p ≡ why_printed fails most layout g shortest chains)
+    × (p ≡ why_printed whole fails most layout g shortest chains)
 
 -- what `why` prints
 abbrev pub IsWhy : (fails : Bool) → (most : Option ℕ) → Question → Listing → Printed → Type 0
-IsWhy fails most q listing p = IsAnswer (Strict (strays_of q) (IsWhyOf fails most)) q listing p
+IsWhy fails most q listing p = IsAnswer (Strict (strays_of q) (IsWhyOf (is_whole q) fails most)) q listing p
 
 -- and which files are read for that
 abbrev pub IsWhyBy : (fails : Bool) → (most : Option ℕ) → Question → Printed → List Given → Listing → Type 0
-IsWhyBy fails most q p given listing = IsAnswerBy (Strict (strays_of q) (IsWhyOf fails most)) q p given listing
+IsWhyBy fails most q p given listing = IsAnswerBy (Strict (strays_of q) (IsWhyOf (is_whole q) fails most)) q p given listing

@@ -1,8 +1,9 @@
 //! What is asked of a project.
 ghost use Rattle.std.specs.Prelude.{◌≡◌};
 ghost use Rattle.inc_report.specs.RuleViews.{seen_list};
-ghost use Rattle.inc_report.specs.Terms.{no_rules};
+ghost use Rattle.inc_report.specs.Terms.{is_whole, no_rules};
 
+use inc_cost::Group;
 use inc_graph::{Cost, Mark};
 use inc_lookup::IncludePath;
 use inc_pp::Settings;
@@ -57,6 +58,15 @@ impl<'q> Model for Question<'q> {
     } };
 }
 
+impl<'q> Question<'q> {
+    /// Whether the files are read as they are: no directive is taken as removed, and no name as undefined.
+    pub(crate) fn is_whole(&self) -> bool
+        ensures { result ≡ is_whole self.now }
+    {
+        self.without.len() == 0 && self.undefined.len() == 0
+    }
+}
+
 /// What limits a cut.
 #[derive(Drop)]
 pub struct Limits<'l> {
@@ -95,6 +105,15 @@ impl<'r> RuleList<'r> {
     }
 }
 
+/// How much is printed of what includes cost.
+#[derive(Clone, Copy, Drop)]
+pub struct CostWords<'c> {
+    /// At most so many headers, and as many directives.
+    pub most: usize,
+    /// The groups of headers that are asked about.
+    pub groups: &'c [Group<'c>],
+}
+
 /// What an answer goes by beside its graph.
 #[derive(Drop)]
 pub struct Details<'d> {
@@ -102,15 +121,17 @@ pub struct Details<'d> {
     pub limits: &'d Limits<'d>,
     /// The rules that are asked about.
     pub rules: RuleList<'d>,
+    /// How much is asked about costs.
+    pub costs: CostWords<'d>,
 }
 
 impl<'d> Model for Details<'d> {
-    ghost use Rattle.inc_report.specs.RuleViews.{seen_list};
+    ghost use Rattle.inc_report.specs.RuleViews.{seen_costs, seen_list};
     ghost use Rattle.inc_report.specs.Terms.{Details};
 
     ghost Value = { Details };
 
-    ghost view = { λ d. record { limits = d.limits.now; rules = seen_list d.rules } };
+    ghost view = { λ d. record { limits = d.limits.now; rules = seen_list d.rules; costs = seen_costs d.costs } };
 }
 
 /// Sources of a project that are to be preprocessed.

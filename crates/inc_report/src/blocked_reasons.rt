@@ -73,7 +73,9 @@ fn put_any_name(text: &mut Vec<u8>, blockers: &[Blocker]) -> Result<(), AllocErr
     ensures { OnOk result (text.new.items ≡ text.old.items ++ any_name_line blockers.now) }
 {
     if has_computed(blockers) {
-        return put_undefine(text, b" --undefined NAME");
+        let words =
+            b" --undefined NAME; where that is given, cut --format gcc says which file defines it";
+        return put_undefine(text, words);
     }
     Ok(())
 }

@@ -1,12 +1,12 @@
-//! What all sources reach, and by which headers and directives most of it comes in.
+//! What all sources reach, by which headers and directives most of it comes in, and what groups of headers cost.
 ghost use Rattle.std.specs.Prelude.{◌≡◌, ◌<◌, ◌++◌, None, false, codes, flat_map, length, replicate, IfOk, IfSome, IfErr};
 ghost use Rattle.inc_lookup.specs.Given.{HoldsOfGiven};
 ghost use Rattle.inc_lookup.specs.Projects.{path_at};
 ghost use Rattle.inc_check.specs.Texts.{line_text};
 ghost use Rattle.inc_cost.specs.Costs.{AreDearest};
 ghost use Rattle.inc_graph.specs.Members.{is_member};
-ghost use Rattle.inc_report.specs.CostViews.{AreWithin, seen_amounts, seen_ranked};
-ghost use Rattle.inc_report.specs.CostText.{amount_text, cost_text, edge_line, header_bytes, header_bytes_at, header_line, total_line, unknown_text, IsCostBy, IsCostFor};
+ghost use Rattle.inc_report.specs.CostViews.{AreWithin, IsInside, seen_amounts, seen_ranked};
+ghost use Rattle.inc_report.specs.CostText.{amount_text, cost_text, edge_line, header_bytes, header_bytes_at, header_line, total_line, unknown_text, IsCostBy, IsCostFor, IsRanked};
 ghost use Rattle.inc_report.specs.Numbers.{count_text};
 ghost use Rattle.inc_report.specs.Questions.{FailsAt};
 ghost use Rattle.inc_report.specs.Sending.{Sends};
@@ -14,6 +14,7 @@ ghost use Rattle.inc_report.specs.Strictness.{Strict, strays_of};
 ghost use Rattle.inc_report.specs.Writing.{Prints, Writes, is_of_certificate, unread_of};
 
 use crate::asked::Question;
+use crate::cost_groups::{RankedGroups, rank_groups, send_groups};
 use crate::edges::send_edges;
 use crate::lines::{send_count_line, send_line, send_number};
 use crate::missing_notes::empty_notes;
@@ -22,7 +23,7 @@ use crate::output::Output;
 use crate::questions::{find_graph, refuse_question};
 use crate::sized_sources::SizedSources;
 use crate::strictness::{refuse_strays, strays_of};
-use inc_cost::{Amounts, Costs, dearest};
+use inc_cost::{Amounts, Costs, Group, dearest};
 use inc_graph::{EdgeId, Graph};
 use inc_lookup::{Project, Sources};
 use inc_text::ByteSink;
@@ -30,8 +31,9 @@ use std::alloc::{AllocError, Global};
 
 /// Writes how many bytes of files all sources reach together, each source counted by itself; then the headers that bring most of them, with
 /// what would not be reached without the header, and the directives without which most of them would not be reached, each by itself: of
-/// both at most `most`, the greatest amounts first. After each amount is the number of sources that have a part in it. Then how many
-/// includes are not found, which are noted, and of how many nothing can be said.
+/// both at most `most`, the greatest amounts first. After each amount is the number of sources that have a part in it. Between them each group
+/// of headers, with what would not be reached if none of its headers were read, and how many directives the smallest cut before it has. Then
+/// how many includes are not found, which are noted, and of how many nothing can be said.
 ///
 /// The sources are given back with the sink. Files are read when they are reached, each once, and of their bytes none is kept. All memory is
 /// taken before the first byte is written.
@@ -41,11 +43,12 @@ pub fn run_cost<S: Sources, W: ByteSink>(
     sources: S,
     question: &Question<'_>,
     most: usize,
+    groups: &[Group<'_>],
     w: W,
 ) -> (Result<End, RunFault>, S, W)
     requires { W.has_failed w ≡ false }
     ensures written { Writes (λ p. HoldsOfGiven S.gives sources result.1 project.now
-        (IsCostBy most question.now p))
+        (IsCostBy most groups.now question.now p))
         (W.written w) (W.written result.2) (W.has_failed result.2) result.0 }
     ensures unread { IfErr result.0 (λ fault. IfSome (unread_of fault)
         (FailsAt S.gives sources result.1 project.now question.now)) }
@@ -59,7 +62,7 @@ pub fn run_cost<S: Sources, W: ByteSink>(
         Ok(sized) => sized,
         Err(sources) => return (Err(RunFault::NoMemory), sources, out.into_sink()),
     };
-    let ended = weigh(alloc, project, &mut sized, question, most, &mut out);
+    let ended = weigh(alloc, project, &mut sized, question, most, groups, &mut out);
     let (result, w) = out.finish(ended);
     (result, sized.into_sources(), w)
 }
@@ -71,11 +74,12 @@ fn weigh<S: Sources, W: ByteSink>(
     sized: &mut SizedSources<S>,
     question: &Question<'_>,
     most: usize,
+    groups: &[Group<'_>],
     out: &mut Output<W>,
 ) -> Result<End, RunFault>
     requires { sized.old.sizes.items ≡ replicate (length project.now.paths) 0 }
     ensures sent { Prints (λ p. HoldsOfGiven S.gives sized.old.sources sized.new.sources project.now
-        (IsCostBy most question.now p)) out.old out.new result }
+        (IsCostBy most groups.now question.now p)) out.old out.new result }
     ensures unread { IfErr result (λ fault. IfSome (unread_of fault)
         (FailsAt S.gives sized.old.sources sized.new.sources project.now question.now)) }
     ensures certificate { IfErr result (λ f. is_of_certificate f ≡ false) }
@@ -83,7 +87,7 @@ fn weigh<S: Sources, W: ByteSink>(
     match find_graph(alloc, project, sized, question) {
         Ok(graph) => {
             let sizes = &sized.sizes;
-            weigh_strictly(alloc, project, question, &graph, sizes, most, out)
+            weigh_strictly(alloc, project, question, &graph, sizes, most, groups, out)
         }
         Err(cause) => refuse_question(alloc, project, question, cause, out),
     }
@@ -97,16 +101,17 @@ fn weigh_strictly<W: ByteSink>(
     graph: &Graph,
     sizes: &[u32],
     most: usize,
+    groups: &[Group<'_>],
     out: &mut Output<W>,
 ) -> Result<End, RunFault>
     requires files { graph.now.files ≡ length project.now.paths }
-    ensures sent { Prints (Strict (strays_of question.now) (IsCostFor sizes.now most) project.now graph.now) out.old out.new result }
+    ensures sent { Prints (Strict (strays_of question.now) (IsCostFor sizes.now most groups.now) project.now graph.now) out.old out.new result }
     ensures read { IfErr result (λ f. unread_of f ≡ None) }
     ensures certificate { IfErr result (λ f. is_of_certificate f ≡ false) }
 {
     let strays = strays_of(alloc, question, graph)?;
     if strays.is_empty() {
-        return weigh_graph(alloc, project, graph, sizes, most, out);
+        return weigh_graph(alloc, project, graph, sizes, most, groups, out);
     }
     refuse_strays(alloc, project, graph, &strays, out)
 }
@@ -118,15 +123,15 @@ fn weigh_graph<W: ByteSink>(
     graph: &Graph,
     sizes: &[u32],
     most: usize,
+    groups: &[Group<'_>],
     out: &mut Output<W>,
 ) -> Result<End, RunFault>
     requires { graph.now.files ≡ length project.now.paths }
-    ensures sent { Prints (IsCostFor sizes.now most project.now graph.now) out.old out.new result }
+    ensures sent { Prints (IsCostFor sizes.now most groups.now project.now graph.now) out.old out.new result }
     ensures read { IfErr result (λ f. unread_of f ≡ None) }
     ensures certificate { IfErr result (λ f. is_of_certificate f ≡ false) }
 {
-    let costs = Costs::new(alloc, graph, sizes)?;
-    let ranked = rank(alloc, project, graph, costs, most)?;
+    let ranked = rank_costs(alloc, project, graph, sizes, most, groups)?;
     let notes = empty_notes(alloc, project, graph)?;
     send_ranked(out, project, graph, &ranked);
     Ok(noted(EndKind::Answered, notes))
@@ -134,25 +139,47 @@ fn weigh_graph<W: ByteSink>(
 
 /// What includes cost, with the places of what is printed of it.
 #[derive(Drop)]
-struct Ranked {
-    costs: Costs,
+pub(crate) struct Ranked<'g> {
+    pub costs: Costs,
     /// Of files that are no sources.
-    headers: Vec<usize>,
-    edges: Vec<usize>,
+    pub headers: Vec<usize>,
+    pub groups: RankedGroups<'g>,
+    pub edges: Vec<usize>,
 }
 
-/// The headers and the edges that cost most, at most so many of each.
-fn rank(
+/// What includes cost in a graph whose files have these sizes: the headers and the edges that cost most, at most so many of each, and groups.
+pub(crate) fn rank_costs<'g>(
+    alloc: Global,
+    project: &Project<'_>,
+    graph: &Graph,
+    sizes: &[u32],
+    most: usize,
+    groups: &[Group<'g>],
+) -> Result<Ranked<'g>, AllocError>
+    requires { graph.now.files ≡ length project.now.paths }
+    ensures ranked { IfOk result (λ r. IsRanked sizes.now most groups.now project.now graph.now (seen_ranked r)) }
+    ensures within { IfOk result (λ r. IsInside project.now graph.now r) }
+{
+    let costs = Costs::new(alloc, graph, sizes)?;
+    let groups = rank_groups(alloc, project, graph, sizes, groups)?;
+    let ranked = rank(alloc, project, graph, costs, groups, most)?;
+    Ok(ranked)
+}
+
+/// The headers and the edges that cost most, at most so many of each, beside groups.
+fn rank<'g>(
     alloc: Global,
     project: &Project<'_>,
     graph: &Graph,
     costs: Costs,
+    groups: RankedGroups<'g>,
     most: usize,
-) -> Result<Ranked, AllocError>
+) -> Result<Ranked<'g>, AllocError>
     requires files { graph.now.files ≡ length project.now.paths }
     requires brought { length costs.files.bytes.items ≡ graph.now.files }
     requires saved { length costs.edges.bytes.items ≡ length graph.now.edges }
     ensures same { IfOk result (λ r. r.costs ≡ costs) }
+    ensures groups { IfOk result (λ r. r.groups ≡ groups.entry) }
     ensures headers { IfOk result (λ r. AreDearest (header_bytes graph.now costs.files.bytes.items) most r.headers.items) }
     ensures edges { IfOk result (λ r. AreDearest costs.edges.bytes.items most r.edges.items) }
 {
@@ -163,6 +190,7 @@ fn rank(
     Ok(Ranked {
         costs,
         headers,
+        groups,
         edges,
     })
 }
@@ -214,15 +242,15 @@ fn send_ranked<W: ByteSink>(
     out: &mut Output<W>,
     project: &Project<'_>,
     graph: &Graph,
-    ranked: &Ranked,
+    ranked: &Ranked<'_>,
 )
     requires files { graph.now.files ≡ length project.now.paths }
-    requires headers { AreWithin (length project.now.paths) ranked.now.costs.files ranked.now.headers.items }
-    requires edges { AreWithin (length graph.now.edges) ranked.now.costs.edges ranked.now.edges.items }
+    requires within { IsInside project.now graph.now ranked.now }
     ensures { Sends out.old out.new (cost_text project.now graph.now (seen_ranked ranked.now)) }
 {
     send_total(out, ranked.costs.total, graph.sources().len());
     send_headers(out, project, &ranked.costs.files, &ranked.headers);
+    send_groups(out, &ranked.groups);
     send_directives(out, project, graph, &ranked.costs.edges, &ranked.edges);
     send_unknown(out, graph);
 }
@@ -368,7 +396,7 @@ fn send_edge<W: ByteSink>(
 }
 
 /// The edge at a place.
-fn id_of(graph: &Graph, place: usize) -> EdgeId
+pub(crate) fn id_of(graph: &Graph, place: usize) -> EdgeId
     requires { place < length graph.now.edges }
     ensures { result ≡ place }
 {

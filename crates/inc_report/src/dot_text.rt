@@ -199,6 +199,21 @@ pub(crate) fn rules_dot(
     dot_text(alloc, project, graph, Some(&flags), &[], None)
 }
 
+/// The graph of some edges.
+pub(crate) fn edges_dot(
+    alloc: Global,
+    subject: Subject<'_>,
+    edges: &[EdgeId],
+) -> Result<Vec<u8>, AllocError>
+    requires files { subject.graph.now.files ≡ length subject.project.now.paths }
+    requires edges { All (λ i. i < length subject.graph.now.edges) edges.now }
+    ensures { IfOk result (λ text. text.items ≡ dot_text subject.entry.project.now subject.entry.graph.now (drawn edges.now [] None)) }
+{
+    let Subject { project, graph, .. } = subject;
+    let flags = edge_flags(alloc, graph, edges)?;
+    dot_text(alloc, project, graph, Some(&flags), &[], None)
+}
+
 /// The graph of a cut and of the chains that show that none is cheaper.
 pub(crate) fn cut_dot(
     alloc: Global,

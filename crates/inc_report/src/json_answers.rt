@@ -141,7 +141,7 @@ fn put_found(json: &mut JsonText<'_>, shortest: Option<&[EdgeId]>) -> Result<(),
 }
 
 /// Adds the sources of the graph, under their key.
-fn put_from(json: &mut JsonText<'_>) -> Result<(), AllocError>
+pub(crate) fn put_from(json: &mut JsonText<'_>) -> Result<(), AllocError>
     ensures { OnOk result (json.new ≡ puts json.old (from_text (about_of json.old))) }
 {
     let graph = json.graph();

@@ -111,7 +111,14 @@ impl<'s> JsonText<'s> {
     fn path(&self, file: FileId) -> &'s [u8]
         ensures { result.now ≡ path_at self.now.layout file }
     {
-        let Some(known) = self.project.at(file.index()) else {
+        self.path_at(file.index())
+    }
+
+    /// The path of the file at a place; nothing where there is none.
+    fn path_at(&self, place: usize) -> &'s [u8]
+        ensures { result.now ≡ path_at self.now.layout place }
+    {
+        let Some(known) = self.project.at(place) else {
             return &[];
         };
         self.project.path(known)
@@ -122,6 +129,14 @@ impl<'s> JsonText<'s> {
         ensures { OnOk result (self.new ≡ puts self.old (file_member key.now (about_of self.old) file)) }
     {
         let path = self.path(file);
+        put_bytes_member(&mut self.text, key, path)
+    }
+
+    /// Adds a member that has the path of the file at a place.
+    pub fn put_file_at(&mut self, key: &[u8], place: usize) -> Result<(), AllocError>
+        ensures { OnOk result (self.new ≡ puts self.old (file_member key.now (about_of self.old) place)) }
+    {
+        let path = self.path_at(place);
         put_bytes_member(&mut self.text, key, path)
     }
 
@@ -174,7 +189,7 @@ impl<'s> JsonText<'s> {
     }
 
     /// Adds the directive of an edge; nothing of none.
-    fn put_edge(&mut self, edge: EdgeId) -> Result<(), AllocError>
+    pub fn put_edge(&mut self, edge: EdgeId) -> Result<(), AllocError>
         ensures { OnOk result (self.new ≡ puts self.old (numbered_text (about_of self.old) edge)) }
     {
         let graph = self.graph();

@@ -3,7 +3,7 @@ ghost use Rattle.std.specs.Prelude.{◌≡◌, ℕ, Bool, List, [], ◌∷◌, O
 ghost use Rattle.std.specs.Option.{option_map_or};
 ghost use Rattle.inc_lookup.specs.Projects.{Layout, Listing};
 ghost use Rattle.inc_report.specs.GraphText.{IsGraph};
-ghost use Rattle.inc_report.specs.KeptOut.{CutKeepsHeadersOut, AnsweredCutKeepsHeadersOut, NothingUnreachedIsRead, NothingIsReadWithoutChain};
+ghost use Rattle.inc_report.specs.KeptOut.{CutKeepsHeadersOut, AnsweredCutKeepsHeadersOut, NothingUnreachedIsRead, NothingIsReadWithoutChain, UnreachedIsKeptOut};
 ghost use Rattle.inc_report.specs.NamedFiles.{file_at, files_at};
 ghost use Rattle.inc_report.specs.Printed.{Printed};
 ghost use Rattle.inc_report.specs.Terms.{Question};
@@ -40,6 +40,12 @@ pub fn files_of_one_path()
 pub fn cuts_keep_the_headers_out()
     ensures files { CutKeepsHeadersOut }
     ensures answered { AnsweredCutKeepsHeadersOut }
+{}
+
+/// Where no chain leads from a source to a header, no preprocessing of a source reads a header, without the directives that the setting takes
+/// as removed. This holds of each graph that is answered and has no blocker.
+pub fn unreached_headers_are_not_read()
+    ensures { UnreachedIsKeptOut }
 {}
 
 /// No preprocessing of a source, without the directives that the setting takes as removed, reads a file to which no walk of its graph

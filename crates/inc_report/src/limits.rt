@@ -13,10 +13,11 @@ use crate::asked::Limits;
 use crate::blocked_reasons::blocked_reasons;
 use crate::edges::send_blockers;
 use crate::lines::send_line;
+use crate::mark_reasons::marks_reason;
 use crate::missing_notes::Notes;
 use crate::outcome::{End, EndKind, RunFault, noted};
 use crate::output::Output;
-use crate::refusals::{Refusal, refuse};
+use crate::refusals::{Refusal, refuse_for};
 use inc_graph::{Blocker, Fixed, FixedFault, Graph};
 use inc_lookup::Project;
 use inc_text::ByteSink;
@@ -82,7 +83,10 @@ pub(crate) fn refuse_hindrance<W: ByteSink>(
     match cause {
         Hindrance::Blocked => refuse_blocked(alloc, project, graph.blockers(), out),
         Hindrance::Marks(fault) => match refusal_of(fault, limits) {
-            Some(refusal) => Ok(refuse(out, refusal)),
+            Some(refusal) => {
+                let reason = marks_reason(alloc, project, graph, limits, fault)?;
+                Ok(refuse_for(out, refusal, reason))
+            }
             None => Err(RunFault::NoMemory),
         },
     }

@@ -4,11 +4,14 @@ ghost use Rattle.std.specs.List.{All};
 ghost use Rattle.inc_graph.specs.MissingLists as graphs;
 ghost use Rattle.inc_graph.specs.MissingLists.{seen_missing};
 ghost use Rattle.inc_report.specs.MissingNames.{missing_names};
-ghost use Rattle.inc_report.specs.MissingNotes.{directory_before, empty_line, empty_notes, empty_words, found_line, found_note, hex_digit, more_note, name_line, name_note, names_note, note_start, padding, shown, shown_byte, unreached_line, unreached_notes, unreached_words};
+ghost use Rattle.inc_report.specs.MissingNotes.{directory_before, empty_line, empty_notes, empty_words, found_line, found_note, hex_digit, missing_note, more_note, name_line, name_note, names_note, never_line, never_note, note_start, padding, shown, shown_byte, unreached_line, unreached_notes, unreached_words};
+ghost use Rattle.inc_report.specs.Terms.{is_whole};
 ghost use Rattle.inc_report.specs.Views.{AreWithin, named_by, seen_name};
 
+use crate::asked::Question;
 use crate::missing_names::{MOST_NAMES, MissingName, MissingNames, spelled};
-use inc_graph::{Graph, HeaderName, Missing, MissingList};
+use crate::useful_dirs::put_useful;
+use inc_graph::{Blocker, Graph, HeaderName, Missing, MissingList};
 use inc_lookup::Project;
 use itoa::Buffer;
 use std::alloc::{AllocError, Global};
@@ -71,7 +74,7 @@ pub(crate) fn empty_notes(
     }
     let mut text = Vec::new(alloc);
     put_empty_line(&mut text, missing.len())?;
-    put_names(&mut text, alloc, project, missing)?;
+    put_missing(&mut text, alloc, project, missing)?;
     Ok(Notes::of(text))
 }
 
@@ -79,19 +82,53 @@ pub(crate) fn empty_notes(
 pub(crate) fn unreached_notes(
     alloc: Global,
     project: &Project<'_>,
+    question: &Question<'_>,
     graph: &Graph,
 ) -> Result<Notes, AllocError>
     requires { graph.now.files ≡ length project.now.paths }
-    ensures { IfOk result (λ notes. notes ≡ unreached_notes project.now graph.now.missing) }
+    ensures { IfOk result (λ notes.
+        notes ≡ unreached_notes (is_whole question.now) project.now graph.now.blockers graph.now.missing) }
 {
     let missing = graph.missing();
     if missing.len() == 0 {
-        return Ok(Notes::none());
+        return never_note(alloc, question.is_whole(), graph.blockers());
     }
     let mut text = Vec::new(alloc);
     put_unreached_line(&mut text, missing.len())?;
-    put_names(&mut text, alloc, project, missing)?;
+    put_missing(&mut text, alloc, project, missing)?;
     Ok(Notes::of(text))
+}
+
+/// The note that no configuration leads to a header, where no blocker is and the files are read as they are.
+fn never_note(alloc: Global, is_whole: bool, blockers: &[Blocker]) -> Result<Notes, AllocError>
+    ensures { IfOk result (λ notes. notes ≡ never_note is_whole blockers.now) }
+{
+    match blockers {
+        [] => never_note_if(alloc, is_whole),
+        _ => Ok(Notes::none()),
+    }
+}
+
+/// That note, or none.
+fn never_note_if(alloc: Global, is_whole: bool) -> Result<Notes, AllocError>
+    ensures { IfOk result (λ notes. notes ≡ never_note is_whole []) }
+{
+    if !is_whole {
+        return Ok(Notes::none());
+    }
+    let mut text = Vec::new(alloc);
+    put_never_line(&mut text)?;
+    Ok(Notes::of(text))
+}
+
+/// Adds the line that no configuration leads to a header.
+fn put_never_line(text: &mut Vec<u8>) -> Result<(), AllocError>
+    ensures { OnOk result (text.new.items ≡ text.old.items ++ never_line) }
+{
+    text.extend_from_slice(b"incut: note: ")?;
+    text.extend_from_slice(b"not reached under any configuration")?;
+    text.push(b'\n')?;
+    Ok(())
 }
 
 /// Adds the first line, where the answer takes headers as empty.
@@ -135,6 +172,20 @@ fn unreached_words(count: usize) -> &'static [u8]
         return b" include names a header that was not found:";
     }
     b" includes name headers that were not found:"
+}
+
+/// Adds the names of these directives, and with which directories most of them would be found.
+fn put_missing(
+    text: &mut Vec<u8>,
+    alloc: Global,
+    project: &Project<'_>,
+    missing: &MissingList,
+) -> Result<(), AllocError>
+    requires { All (λ (m : graphs.Missing). m.file < length project.now.paths) missing.now }
+    ensures { OnOk result (text.new.items ≡ text.old.items ++ missing_note project.now missing.now) }
+{
+    put_names(text, alloc, project, missing)?;
+    put_useful(text, alloc, project, missing)
 }
 
 /// Adds the names of these directives.

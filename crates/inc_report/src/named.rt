@@ -1,5 +1,5 @@
 //! Answers in which directives stand as they are written, each with its file and line.
-ghost use Rattle.std.specs.Prelude.{◌≡◌, ◌≢◌, ◌<◌, ◌≤◌, ℕ, List, [], None, false, length, map, replicate, IfOk, IfSome, IfErr};
+ghost use Rattle.std.specs.Prelude.{◌≡◌, ◌≢◌, ◌<◌, ◌≤◌, ℕ, Bool, List, [], None, false, length, map, replicate, IfOk, IfSome, IfErr};
 ghost use Rattle.std.specs.List.{All};
 ghost use Rattle.inc_lookup.specs.Given.{HoldsOfGiven};
 ghost use Rattle.inc_graph.specs.Chains.{AreChainsByLast, IsShortestOrNone};
@@ -20,6 +20,7 @@ ghost use Rattle.inc_report.specs.Printed.{Printed, refused_for};
 ghost use Rattle.inc_report.specs.Questions.{FailsAt, IsStopped, IsWithin, unread_by};
 ghost use Rattle.inc_report.specs.Refusals.{NotFound, refusal_for};
 ghost use Rattle.inc_report.specs.Strictness.{asked_strays_of, stray_reasons};
+ghost use Rattle.inc_report.specs.Terms.{is_whole};
 ghost use Rattle.inc_report.specs.Told.{Chains, Edges, FixedChain, Removed, Sources, chain_found, told_printed};
 ghost use Rattle.inc_report.specs.Views.{seen_refusal};
 ghost use Rattle.inc_report.specs.RuleViews.{seen_list};
@@ -31,6 +32,7 @@ ghost use Rattle.inc_report.specs.Writing.{Prints, Writes, is_of_certificate, un
 use crate::asked::{Details, Limits, Question, RuleList};
 use crate::cut::nearest_cut;
 use crate::cut_document::{ChainForm, cut_document, fixed_document};
+use crate::definition_places::definition_places;
 use crate::directive_names::NameTable;
 use crate::documents::Document;
 use crate::dot_text::{chains_dot, cut_dot, fixed_dot, graph_dot, rules_dot};
@@ -39,7 +41,9 @@ use crate::json_answers::{cut_json, fixed_json, graph_json, who_json, why_json};
 use crate::json_refusals::{blocked_json, refusal_json, strays_json};
 use crate::kept_sources::KeptSources;
 use crate::limits::{Hindrance, amounts_of, refusal_of, send_blocked};
+use crate::mark_reasons::marks_reason;
 use crate::missing_notes::{Notes, empty_notes, unreached_notes};
+use crate::named_costs::tell_costs;
 use crate::named_reasons::named_reasons;
 use crate::outcome::{End, EndKind, RunFault, reached_kind};
 use crate::output::Output;
@@ -73,6 +77,8 @@ pub enum Asked {
     Cut,
     /// Which rules are broken, as [`run_rules`](crate::run_rules) prints it.
     Rules,
+    /// What includes cost, as [`run_cost`](crate::run_cost) prints it.
+    Cost,
 }
 
 impl Asked {
@@ -81,7 +87,7 @@ impl Asked {
         ensures { result ≡ asks_headers self }
     {
         match self {
-            Asked::Graph | Asked::Rules => false,
+            Asked::Graph | Asked::Rules | Asked::Cost => false,
             _ => true,
         }
     }
@@ -96,6 +102,7 @@ impl Asked {
             Asked::Graph => b"graph",
             Asked::Cut => b"cut",
             Asked::Rules => b"rules",
+            Asked::Cost => b"cost",
         }
     }
 }
@@ -126,7 +133,7 @@ pub struct NamedForm {
 
 /// Writes an answer in which a directive stands with its file, its line and how it is written: as a line for each, with lines between
 /// them that say what they are, or as an object of JSON. Chains that are shown whole go from a source to a header. Limits count of a cut
-/// alone, and rules where these are asked about.
+/// alone, rules where these are asked about, and how much is printed of costs.
 ///
 /// The sources are given back with the sink. Each file is read once, as by [`run_why`](crate::run_why), and its bytes are kept until the
 /// call ends. All memory is taken before the first byte is written.
@@ -333,23 +340,29 @@ fn answer_graph<W: ByteSink>(
     ensures certificate { IfErr result (λ f. is_of_certificate f ≡ false) }
 {
     match form.asked {
-        Asked::Why => Ok(explain(alloc, subject, form)?.send(out)),
-        Asked::Who => Ok(tell(alloc, subject, form)?.send(out)),
+        Asked::Why => Ok(explain(alloc, subject, question, form)?.send(out)),
+        Asked::Who => Ok(tell(alloc, subject, question, form)?.send(out)),
         Asked::Graph => Ok(list(alloc, subject, form)?.send(out)),
         Asked::Cut => separate(alloc, subject, question, details, form, out),
         Asked::Rules => Ok(rule(alloc, subject, details.rules, form)?.send(out)),
+        Asked::Cost => Ok(tell_costs(alloc, subject, details.costs, form)?.send(out)),
     }
 }
 
 /// How a header reaches a source.
-fn explain(alloc: Global, subject: Subject<'_>, form: NamedForm) -> Result<Told, AllocError>
+fn explain(
+    alloc: Global,
+    subject: Subject<'_>,
+    question: &Question<'_>,
+    form: NamedForm,
+) -> Result<Told, AllocError>
     requires { subject.graph.now.files ≡ length subject.project.now.paths }
-    ensures { IfOk result (λ report. IsReport Asked.Why form false (about_subject subject.entry) []
+    ensures { IfOk result (λ report. IsReport (is_whole question.now) Asked.Why form false (about_subject subject.entry) []
         (told_printed report)) }
 {
     let mut chains = ShortestChains::new(alloc, subject.graph)?;
     let found = chains.find_shortest();
-    let notes = notes_if(alloc, subject, found)?;
+    let notes = notes_if(alloc, subject, question, found)?;
     Ok(Told {
         text: why_text(alloc, subject, found, &mut chains, form)?,
         kind: kind_if(found, form.fails),
@@ -358,15 +371,20 @@ fn explain(alloc: Global, subject: Subject<'_>, form: NamedForm) -> Result<Told,
 }
 
 /// The notes beside the answer that a chain is found, or that none is.
-fn notes_if(alloc: Global, subject: Subject<'_>, found: bool) -> Result<Notes, AllocError>
+fn notes_if(
+    alloc: Global,
+    subject: Subject<'_>,
+    question: &Question<'_>,
+    found: bool,
+) -> Result<Notes, AllocError>
     requires { subject.graph.now.files ≡ length subject.project.now.paths }
-    ensures { IfOk result (λ notes. (chain : List ℕ) →
-        notes ≡ why_notes subject.entry.project.now subject.entry.graph.now (chain_found found chain)) }
+    ensures { IfOk result (λ notes. (chain : List ℕ) → notes
+        ≡ why_notes (is_whole question.now) subject.entry.project.now subject.entry.graph.now (chain_found found chain)) }
 {
     if found {
         return Ok(Notes::none());
     }
-    unreached_notes(alloc, subject.project, subject.graph)
+    unreached_notes(alloc, subject.project, question, subject.graph)
 }
 
 /// How the call ends with the answer that a chain is found, or that none is.
@@ -446,14 +464,19 @@ fn why_object(
 }
 
 /// Which sources reach a header.
-fn tell(alloc: Global, subject: Subject<'_>, form: NamedForm) -> Result<Told, AllocError>
+fn tell(
+    alloc: Global,
+    subject: Subject<'_>,
+    question: &Question<'_>,
+    form: NamedForm,
+) -> Result<Told, AllocError>
     requires { subject.graph.now.files ≡ length subject.project.now.paths }
-    ensures { IfOk result (λ report. IsReport Asked.Who form false (about_subject subject.entry) []
+    ensures { IfOk result (λ report. IsReport (is_whole question.now) Asked.Who form false (about_subject subject.entry) []
         (told_printed report)) }
 {
     let mut reaching = SourceChains::new(alloc, subject.graph)?;
     let mut chains = ShortestChains::new(alloc, subject.graph)?;
-    let notes = notes_of(alloc, subject.project, subject.graph, &reaching)?;
+    let notes = notes_of(alloc, subject.project, question, subject.graph, &reaching)?;
     let kind = kind_of(&reaching, form.fails);
     Ok(Told {
         text: who_text(alloc, subject, &mut reaching, &mut chains, form)?,
@@ -495,7 +518,7 @@ fn who_text(
 /// Which edges the sources reach.
 fn list(alloc: Global, subject: Subject<'_>, form: NamedForm) -> Result<Told, AllocError>
     requires { subject.graph.now.files ≡ length subject.project.now.paths }
-    ensures { IfOk result (λ report. IsReport Asked.Graph form false (about_subject subject.entry) []
+    ensures { IfOk result (λ report. (whole : Bool) → IsReport whole Asked.Graph form false (about_subject subject.entry) []
         (told_printed report)) }
 {
     Ok(Told {
@@ -521,7 +544,11 @@ fn graph_text(alloc: Global, subject: Subject<'_>, form: NamedForm) -> Result<Ve
 }
 
 /// The lines of a document.
-fn lines_of(alloc: Global, subject: Subject<'_>, document: &Document) -> Result<Vec<u8>, AllocError>
+pub(crate) fn lines_of(
+    alloc: Global,
+    subject: Subject<'_>,
+    document: &Document,
+) -> Result<Vec<u8>, AllocError>
     ensures { IfOk result (λ text. text.items ≡ document_text
         (kept_name subject.entry.language subject.entry.files.now) subject.entry.project.now document.now) }
 {
@@ -616,7 +643,11 @@ fn refuse_cut<W: ByteSink>(
     match cause {
         Hindrance::Blocked => refuse_blocked(alloc, subject, question, form, out),
         Hindrance::Marks(fault) => match refusal_of(fault, limits) {
-            Some(refusal) => refuse_in(alloc, form, refusal, Notes::none(), out),
+            Some(refusal) => {
+                let Subject { project, graph, .. } = subject;
+                let reason = marks_reason(alloc, project, graph, limits, fault)?;
+                refuse_in(alloc, form, refusal, reason, out)
+            }
             None => Err(RunFault::NoMemory),
         },
     }
@@ -642,7 +673,9 @@ fn refuse_blocked<W: ByteSink>(
     } = subject;
     let blockers = graph.blockers();
     let mut names = NameTable::new(alloc, files, language, project.count())?;
-    let reasons = named_reasons(alloc, project, question, &mut names, blockers)?;
+    let undefined = question.undefined;
+    let places = definition_places(alloc, project, files, language, undefined)?;
+    let reasons = named_reasons(alloc, project, question, &places, &mut names, blockers)?;
     match form.format {
         Format::Gcc | Format::Dot => Ok(send_blocked(project, blockers, reasons, out)),
         Format::Json => {
@@ -675,7 +708,7 @@ fn smallest(
     requires files { subject.graph.now.files ≡ length subject.project.now.paths }
     requires sound { IsSound subject.graph.now }
     requires fixed { length fixed.now ≡ length subject.graph.now.edges }
-    ensures { IfOk result (λ report. IsReport Asked.Cut form costed (about_subject subject.entry) fixed.now
+    ensures { IfOk result (λ report. (whole : Bool) → IsReport whole Asked.Cut form costed (about_subject subject.entry) fixed.now
         (told_printed report)) }
 {
     let Subject { project, graph, .. } = subject;

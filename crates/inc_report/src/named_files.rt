@@ -222,7 +222,7 @@ fn flag_files(alloc: Global, project: &Project<'_>, paths: &[&[u8]]) -> Result<V
 }
 
 /// The files that have a flag, in their order.
-fn flagged_files(
+pub(crate) fn flagged_files(
     alloc: Global,
     project: &Project<'_>,
     flags: &[bool],

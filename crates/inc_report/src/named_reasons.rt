@@ -1,6 +1,6 @@
 //! Why an answer about cuts is refused where blockers are whose directives are known: what each of them is and how it is written, and how to
 //! go on.
-ghost use Rattle.std.specs.Prelude.{◌≡◌, ◌<◌, ◌++◌, Some, ℕ, List, bytes_eq, flat_map, length, map, option_map, IfOk, OnOk};
+ghost use Rattle.std.specs.Prelude.{◌≡◌, ◌<◌, ◌++◌, None, Some, ℕ, List, Option, bytes_eq, flat_map, length, map, option_map, if◌then◌else◌, slice_index_or, IfOk, IfSome, OnOk};
 ghost use Rattle.std.specs.Borrow.{Bor};
 ghost use Rattle.std.specs.List.{All, list_any};
 ghost use Rattle.inc_directive.specs.KindViews.{seen_kind, seen_target};
@@ -9,14 +9,19 @@ ghost use Rattle.inc_token.specs.declared.kinds.IncludeName.{IncludeName};
 ghost use Rattle.inc_graph.specs.IncludeGraph.{name_in};
 ghost use Rattle.inc_lookup.specs.Projects.{with_path};
 ghost use Rattle.inc_macro.specs.Macros.{is_among};
+ghost use Rattle.inc_lookup.specs.declared.projects.DirectiveId as declared;
+ghost use Rattle.inc_report.specs.DefinitionPlaces.{ArePlaced, kept_place};
 ghost use Rattle.inc_report.specs.DirectiveNames.{kept_kind, written};
 ghost use Rattle.inc_report.specs.MissingNotes.{shown};
-ghost use Rattle.inc_report.specs.NamedReasons.{behind_colon, directive_of, is_made_by, is_open, named_reason, named_reasons, named_words, names_line, open_names, undefined_word, with_open, written_end};
+ghost use Rattle.inc_report.specs.NamedReasons.{behind_colon, definition_words, directive_of, is_made_by, is_open, made_place, named_reason, named_reasons, named_words, names_line, open_names, undefined_word, with_open, written_end};
+ghost use Rattle.inc_report.specs.NamedText.{sight_kept};
 
 use crate::asked::Question;
 use crate::blocked_reasons::{put_drops, put_undefine, reason_words};
+use crate::definition_places::place_among;
 use crate::directive_names::{NameTable, put_written};
 use crate::fault_reasons::put_reason;
+use crate::mark_reasons::put_place;
 use crate::missing_notes::{Notes, put_shown};
 use crate::near_names::{most_of, put_more};
 use inc_directive::{LineKind, Target};
@@ -26,24 +31,28 @@ use inc_macro::is_reserved;
 use inc_text::Language;
 use std::alloc::{AllocError, Global};
 
-/// What is said beside the refusal by these blockers, whose directives are written as these names have it.
+/// What is said beside the refusal by these blockers, whose directives are written as these names have it. Where a file defines a name that
+/// may be left undefined is among these places.
 pub(crate) fn named_reasons(
     alloc: Global,
     project: &Project<'_>,
     question: &Question<'_>,
+    places: &[Option<DirectiveId>],
     names: &mut NameTable<'_>,
     blockers: &[Blocker],
 ) -> Result<Notes, AllocError>
-    requires { All (λ (b : Blocker). b.file < length project.now.paths) blockers.now }
+    requires within { All (λ (b : Blocker). b.file < length project.now.paths) blockers.now }
+    requires placed { ArePlaced question.now.undefined
+        (kept_place names.old.language names.old.kept (length project.now.paths)) places.now }
     ensures reasons { IfOk result (λ notes. notes ≡ named_reasons question.now.language question.now.undefined
-        (kept_kind names.old.language names.old.kept) project.now blockers.now) }
+        (sight_kept names.old.language project.now names.old.kept) project.now blockers.now) }
     ensures same { names.new ≡ names.old }
 {
     let count = most_of(blockers.len());
     let firsts = &blockers[..count];
     let undefined = question.undefined;
     let mut text = Vec::new(alloc);
-    put_blockers(&mut text, alloc, project, undefined, names, firsts)?;
+    put_blockers(&mut text, alloc, project, undefined, places, names, firsts)?;
     put_more(&mut text, blockers.len() - count)?;
     put_open(
         &mut text,
@@ -63,16 +72,20 @@ fn put_blockers(
     alloc: Global,
     project: &Project<'_>,
     undefined: &[&[u8]],
+    places: &[Option<DirectiveId>],
     names: &mut NameTable<'_>,
     blockers: &[Blocker],
 ) -> Result<(), AllocError>
-    requires { All (λ (b : Blocker). b.file < length project.now.paths) blockers.now }
+    requires within { All (λ (b : Blocker). b.file < length project.now.paths) blockers.now }
+    requires placed { ArePlaced (map (λ n. n.now) undefined.now)
+        (kept_place names.old.language names.old.kept (length project.now.paths)) places.now }
     ensures text { OnOk result (text.new.items ≡ text.old.items
-        ++ flat_map (named_reason (map (λ n. n.now) undefined.now) (kept_kind names.old.language names.old.kept) project.now) blockers.now) }
+        ++ flat_map (named_reason (map (λ n. n.now) undefined.now)
+        (sight_kept names.old.language project.now names.old.kept) project.now) blockers.now) }
     ensures same { names.new ≡ names.old }
 {
     for blocker in blockers {
-        put_blocker(text, alloc, project, undefined, names, *blocker)?;
+        put_blocker(text, alloc, project, undefined, places, names, *blocker)?;
     }
     Ok(())
 }
@@ -83,44 +96,125 @@ fn put_blocker(
     alloc: Global,
     project: &Project<'_>,
     undefined: &[&[u8]],
+    places: &[Option<DirectiveId>],
     names: &mut NameTable<'_>,
     blocker: Blocker,
 ) -> Result<(), AllocError>
-    requires { blocker.file < length project.now.paths }
+    requires within { blocker.file < length project.now.paths }
+    requires placed { ArePlaced (map (λ n. n.now) undefined.now)
+        (kept_place names.old.language names.old.kept (length project.now.paths)) places.now }
     ensures text { OnOk result (text.new.items ≡ text.old.items
-        ++ named_reason (map (λ n. n.now) undefined.now) (kept_kind names.old.language names.old.kept) project.now blocker) }
+        ++ named_reason (map (λ n. n.now) undefined.now) (sight_kept names.old.language project.now names.old.kept) project.now blocker) }
     ensures same { names.new ≡ names.old }
 {
     let Blocker { file, line, kind } = blocker;
     let directive = names.line(alloc, DirectiveId { file, line })?;
     let mut words = Vec::new(alloc);
-    put_words(&mut words, alloc, undefined, directive.kind(), kind)?;
+    let seen = directive.kind();
+    let definition = definition_of(undefined, places, seen);
+    put_words(
+        &mut words, alloc, project, undefined, definition, seen, kind,
+    )?;
     put_reason(text, project.path(file), line, &words)
+}
+
+/// Where the name that makes the header of a directive is defined, if it is among these, whose places are known.
+fn definition_of(
+    undefined: &[&[u8]],
+    places: &[Option<DirectiveId>],
+    kind: LineKind<'_>,
+) -> Option<DirectiveId>
+    ensures { (definition : List ℕ → Option declared.DirectiveId) →
+        ArePlaced (map (λ n. n.now) undefined.now) definition places.now →
+        result ≡ (if is_made_by (map (λ n. n.now) undefined.now) (seen_kind kind.entry) then made_place definition (seen_kind kind.entry) else None) }
+{
+    match name_in(kind) {
+        Some(name) => definition_among(undefined, places, name),
+        None => None,
+    }
+}
+
+/// The same of a name.
+fn definition_among(
+    undefined: &[&[u8]],
+    places: &[Option<DirectiveId>],
+    name: &[u8],
+) -> Option<DirectiveId>
+    ensures { (definition : List ℕ → Option declared.DirectiveId) →
+        ArePlaced (map (λ n. n.now) undefined.now) definition places.now →
+        result ≡ (if is_among name.now (map (λ n. n.now) undefined.now) then definition name.now else None) }
+{
+    match place_among(undefined, name) {
+        Some(place) => place_at(places, place),
+        None => None,
+    }
+}
+
+/// A place of this list.
+fn place_at(places: &[Option<DirectiveId>], at: usize) -> Option<DirectiveId>
+    ensures { result ≡ slice_index_or places.now at None }
+{
+    match places.get(at) {
+        Some(place) => *place,
+        None => None,
+    }
 }
 
 /// Adds what a blocker is, and how its directive is written.
 fn put_words(
     text: &mut Vec<u8>,
     alloc: Global,
+    project: &Project<'_>,
     undefined: &[&[u8]],
+    definition: Option<DirectiveId>,
     kind: LineKind<'_>,
     blocker: BlockerKind,
 ) -> Result<(), AllocError>
+    requires { IfSome definition (λ (d : declared.DirectiveId). d.file < length project.now.paths) }
     ensures { OnOk result (text.new.items ≡ text.old.items
-        ++ (named_words (map (λ n. n.now) undefined.now) (seen_kind kind.entry) blocker ++ written_end (seen_kind kind.entry) blocker)) }
+        ++ (named_words (map (λ n. n.now) undefined.now) project.now definition (seen_kind kind.entry) blocker ++ written_end (seen_kind kind.entry) blocker)) }
 {
-    text.extend_from_slice(named_words(undefined, kind, blocker))?;
+    put_named_words(text, project, undefined, definition, kind, blocker)?;
     put_end(text, alloc, kind, blocker)
 }
 
-/// What a blocker is.
-fn named_words(undefined: &[&[u8]], kind: LineKind<'_>, blocker: BlockerKind) -> &'static [u8]
-    ensures { result.now ≡ named_words (map (λ n. n.now) undefined.now) (seen_kind kind.entry) blocker }
+/// Adds what a blocker is.
+fn put_named_words(
+    text: &mut Vec<u8>,
+    project: &Project<'_>,
+    undefined: &[&[u8]],
+    definition: Option<DirectiveId>,
+    kind: LineKind<'_>,
+    blocker: BlockerKind,
+) -> Result<(), AllocError>
+    requires { IfSome definition (λ (d : declared.DirectiveId). d.file < length project.now.paths) }
+    ensures { OnOk result (text.new.items ≡ text.old.items
+        ++ named_words (map (λ n. n.now) undefined.now) project.now definition (seen_kind kind.entry) blocker) }
 {
     if is_made_by(undefined, kind) {
-        return b"a file defines the name that makes the header";
+        return put_definition(text, project, definition);
     }
-    reason_words(blocker)
+    text.extend_from_slice(reason_words(blocker))?;
+    Ok(())
+}
+
+/// Adds that a file defines the name that makes a header, and where.
+fn put_definition(
+    text: &mut Vec<u8>,
+    project: &Project<'_>,
+    definition: Option<DirectiveId>,
+) -> Result<(), AllocError>
+    requires { IfSome definition (λ (d : declared.DirectiveId). d.file < length project.now.paths) }
+    ensures { OnOk result (text.new.items ≡ text.old.items ++ definition_words project.now definition) }
+{
+    match definition {
+        Some(DirectiveId { file, line }) => {
+            put_place(text, project.path(file), line)?;
+            text.extend_from_slice(b" defines the name that makes the header")?;
+        }
+        None => text.extend_from_slice(b"a file defines the name that makes the header")?,
+    }
+    Ok(())
 }
 
 /// Whether the name that makes its header is among these.

@@ -6,6 +6,7 @@ ghost use Rattle.inc_graph.specs.Reaching.{Reaching};
 ghost use Rattle.inc_report.specs.Questions.{FailsAt};
 ghost use Rattle.inc_report.specs.Sending.{Sends};
 ghost use Rattle.inc_report.specs.Strictness.{Strict, strays_of};
+ghost use Rattle.inc_report.specs.Terms.{is_whole};
 ghost use Rattle.inc_report.specs.WhoText.{chain_if, reaching_text, sources_text, who_kind, who_notes, IsWhoOf, IsWhoBy};
 ghost use Rattle.inc_report.specs.Writing.{Prints, Writes, is_of_certificate, unread_of};
 
@@ -107,13 +108,22 @@ fn tell_strictly<W: ByteSink>(
     out: &mut Output<W>,
 ) -> Result<End, RunFault>
     requires { graph.now.files ≡ length project.now.paths }
-    ensures sent { Prints (Strict (strays_of question.now) (IsWhoOf with_chains fails most) project.now graph.now) out.old out.new result }
+    ensures sent { Prints (Strict (strays_of question.now) (IsWhoOf (is_whole question.now) with_chains fails most) project.now graph.now) out.old out.new result }
     ensures read { IfErr result (λ f. unread_of f ≡ None) }
     ensures certificate { IfErr result (λ f. is_of_certificate f ≡ false) }
 {
     let strays = strays_of(alloc, question, graph)?;
     if strays.is_empty() {
-        return tell_graph(alloc, project, graph, with_chains, fails, most, out);
+        return tell_graph(
+            alloc,
+            project,
+            question,
+            graph,
+            with_chains,
+            fails,
+            most,
+            out,
+        );
     }
     refuse_strays(alloc, project, graph, &strays, out)
 }
@@ -122,6 +132,7 @@ fn tell_strictly<W: ByteSink>(
 fn tell_graph<W: ByteSink>(
     alloc: Global,
     project: &Project<'_>,
+    question: &Question<'_>,
     graph: &Graph,
     with_chains: bool,
     fails: bool,
@@ -129,13 +140,13 @@ fn tell_graph<W: ByteSink>(
     out: &mut Output<W>,
 ) -> Result<End, RunFault>
     requires { graph.now.files ≡ length project.now.paths }
-    ensures sent { Prints (IsWhoOf with_chains fails most project.now graph.now) out.old out.new result }
+    ensures sent { Prints (IsWhoOf (is_whole question.now) with_chains fails most project.now graph.now) out.old out.new result }
     ensures read { IfErr result (λ f. unread_of f ≡ None) }
     ensures certificate { IfErr result (λ f. is_of_certificate f ≡ false) }
 {
     let mut reaching = SourceChains::new(alloc, graph)?;
     let mut chains = ShortestChains::new(alloc, graph)?;
-    let notes = notes_of(alloc, project, graph, &reaching)?;
+    let notes = notes_of(alloc, project, question, graph, &reaching)?;
     let kind = kind_of(&reaching, fails);
     send_reaching(out, project, graph, with_chains, most, &mut reaching);
     send_ways(out, project, graph, &mut chains, most);
@@ -146,14 +157,15 @@ fn tell_graph<W: ByteSink>(
 pub(crate) fn notes_of(
     alloc: Global,
     project: &Project<'_>,
+    question: &Question<'_>,
     graph: &Graph,
     reaching: &SourceChains<'_>,
 ) -> Result<Notes, AllocError>
     requires { graph.now.files ≡ length project.now.paths }
-    ensures { IfOk result (λ notes. notes ≡ who_notes project.now graph.now reaching.now.left) }
+    ensures { IfOk result (λ notes. notes ≡ who_notes (is_whole question.now) project.now graph.now reaching.now.left) }
 {
     if reaching.count() == 0 {
-        return unreached_notes(alloc, project, graph);
+        return unreached_notes(alloc, project, question, graph);
     }
     Ok(Notes::none())
 }

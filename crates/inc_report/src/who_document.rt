@@ -220,7 +220,7 @@ fn put_lead(
 }
 
 /// The directive of an edge.
-fn directive_of(graph: &Graph, edge: EdgeId) -> DirectiveId
+pub(crate) fn directive_of(graph: &Graph, edge: EdgeId) -> DirectiveId
     requires { edge < length graph.now.edges }
     ensures { directives_of graph.now (edge ∷ []) ≡ result ∷ [] }
 {

@@ -9,6 +9,7 @@ ghost use Rattle.inc_report.specs.MarkTexts.{missing_mark, list_text, chains_tex
 ghost use Rattle.inc_report.specs.Questions.{FailsAt};
 ghost use Rattle.inc_report.specs.Sending.{Sends};
 ghost use Rattle.inc_report.specs.Strictness.{Strict, strays_of};
+ghost use Rattle.inc_report.specs.Terms.{is_whole};
 ghost use Rattle.inc_report.specs.WhyText.{unresolved_text, ways_text, why_text, IsWhyOf, IsWhyBy};
 ghost use Rattle.inc_report.specs.Writing.{Prints, Writes, is_of_certificate, unread_of};
 
@@ -88,13 +89,13 @@ fn explain_strictly<W: ByteSink>(
     out: &mut Output<W>,
 ) -> Result<End, RunFault>
     requires { graph.now.files ≡ length project.now.paths }
-    ensures sent { Prints (Strict (strays_of question.now) (IsWhyOf fails most) project.now graph.now) out.old out.new result }
+    ensures sent { Prints (Strict (strays_of question.now) (IsWhyOf (is_whole question.now) fails most) project.now graph.now) out.old out.new result }
     ensures read { IfErr result (λ f. unread_of f ≡ None) }
     ensures certificate { IfErr result (λ f. is_of_certificate f ≡ false) }
 {
     let strays = strays_of(alloc, question, graph)?;
     if strays.is_empty() {
-        return explain_graph(alloc, project, graph, fails, most, out);
+        return explain_graph(alloc, project, question, graph, fails, most, out);
     }
     refuse_strays(alloc, project, graph, &strays, out)
 }
@@ -103,13 +104,14 @@ fn explain_strictly<W: ByteSink>(
 fn explain_graph<W: ByteSink>(
     alloc: Global,
     project: &Project<'_>,
+    question: &Question<'_>,
     graph: &Graph,
     fails: bool,
     most: Option<usize>,
     out: &mut Output<W>,
 ) -> Result<End, RunFault>
     requires { graph.now.files ≡ length project.now.paths }
-    ensures sent { Prints (IsWhyOf fails most project.now graph.now) out.old out.new result }
+    ensures sent { Prints (IsWhyOf (is_whole question.now) fails most project.now graph.now) out.old out.new result }
     ensures read { IfErr result (λ f. unread_of f ≡ None) }
     ensures certificate { IfErr result (λ f. is_of_certificate f ≡ false) }
 {
@@ -118,7 +120,7 @@ fn explain_graph<W: ByteSink>(
         send_reached(out, project, graph, &mut chains, most);
         return Ok(plain(reached_kind(fails)));
     }
-    let notes = unreached_notes(alloc, project, graph)?;
+    let notes = unreached_notes(alloc, project, question, graph)?;
     send_unreached(out, project, graph, &mut chains, most);
     Ok(noted(EndKind::Answered, notes))
 }

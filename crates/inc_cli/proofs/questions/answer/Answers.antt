@@ -1,4 +1,4 @@
-use Rattle.std.proofs.Common.{map, subst}
+use Rattle.std.proofs.Common.{◌≡◌, ◌∙◌, Option, Some, ap, map, subst}
 use Rattle.inc_rules.specs.Views.{seen_rule}
 use Rattle.inc_lookup.specs.Given.{HoldsOfGiven}
 use Rattle.inc_check.specs.Texts.{OfBytes}
@@ -13,12 +13,15 @@ use Rattle.inc_report.specs.NamedHeadline.{NamedHeadline}
 use Rattle.inc_report.specs.NamedText.{IsNamedBy}
 use Rattle.inc_report.specs.RuleViews.{seen_list}
 use Rattle.inc_report.specs.RulesText.{IsRulesBy}
-use Rattle.inc_report.specs.Terms.{Details, RuleList, no_rules}
+use Rattle.inc_report.specs.Terms.{Details}
 use Rattle.inc_report.specs.WhoText.{IsWhoBy}
 use Rattle.inc_report.specs.WhyText.{IsWhyBy}
+use Rattle.inc_report.specs.declared.named.Format.{Format}
 use Rattle.inc_report.specs.declared.named.NamedForm.{NamedForm}
-use Rattle.inc_cli.specs.Commands.{rules_form}
+use Rattle.inc_cli.specs.Commands.{Cost, Named, Rules, cost_form, details_of, rules_form}
 use Rattle.inc_cli.specs.Questions.{Content, Promise}
+use Rattle.inc_inputs.specs.Views.{baseline_in}
+use Rattle.inc_cli.specs.Views.{seen_command}
 use Rattle.inc_cli.proofs.ListedPrints.{of_bytes_all}
 use Rattle.inc_cli.proofs.ListedReadings.{holds, prints, reading}
 use Rattle.inc_cli.proofs.questions.answer.Goals as goal
@@ -106,11 +109,16 @@ returns-in-Rules-clause-printed g c Content notes =
     let new = c.run_named-ended-in-Some.result.1 in
     let layout = c.args.project.now in
     let q = c.args.question.now in
-    let d : Details = record { limits = c.args.limits.now; rules = seen_list c.in-Rules.rules } in
+    let l = c.args.limits.now in
+    let groups = c.args.groups.now in
+    let d : Details = c.details_of-details-in-Some.result in
+    let same : d ≡ details_of (Rules (Some c.in-Some.format) (seen_list c.in-Rules.rules) (baseline_in c.in-Rules.field-2)) l groups = c.details_of-details-in-Some.ensures ∙ ap (λ k. details_of (seen_command k) l groups) c.in-Rules.is
+    ∙ ap (λ (f : Option Format). details_of (Rules f (seen_list c.in-Rules.rules) (baseline_in c.in-Rules.field-2)) l groups) c.in-Some.is in
     let form = c.rules_form-form.result in
     rw (c.in-Rules.is, c.in-Some.is) (prints gives old new layout q (λ p. HoldsOfGiven (reading gives) old new layout (IsNamedBy form q d p)) _ _ _
-    (λ p h. holds gives old new layout (IsNamedBy (rules_form c.in-Some.format) q d p)
-    (subst (λ (f : NamedForm). HoldsOfGiven (reading gives) old new layout (IsNamedBy f q d p)) c.rules_form-form.ensures h))
+    (λ p h. holds gives old new layout (IsNamedBy (rules_form c.in-Some.format) q (details_of (Rules (Some c.in-Some.format) (seen_list c.in-Rules.rules) (baseline_in c.in-Rules.field-2)) l groups) p)
+    (subst (λ (x : Details). HoldsOfGiven (reading gives) old new layout (IsNamedBy (rules_form c.in-Some.format) q x p)) same
+    (subst (λ (f : NamedForm). HoldsOfGiven (reading gives) old new layout (IsNamedBy f q d p)) c.rules_form-form.ensures h)))
     c.run_named-ended-in-Some.ensures.written c.run_named-ended-in-Some.ensures.unread)
 returns-in-Rules-clause-printed g c Promise notes =
     let gives = g.I.Inputs.gives in
@@ -118,7 +126,7 @@ returns-in-Rules-clause-printed g c Promise notes =
     let new = c.run_named-ended-in-Some.result.1 in
     let layout = c.args.project.now in
     let q = c.args.question.now in
-    let d : Details = record { limits = c.args.limits.now; rules = seen_list c.in-Rules.rules } in
+    let d : Details = c.details_of-details-in-Some.result in
     let form = c.rules_form-form.result in
     rw c.in-Rules.is (prints gives old new layout q (λ p. HoldsOfGiven (reading gives) old new layout (IsNamedBy form q d p)) _ _ _
     (λ p h. tt) c.run_named-ended-in-Some.ensures.written c.run_named-ended-in-Some.ensures.unread)
@@ -191,11 +199,13 @@ returns-in-Named-clause-printed g c Content notes =
     let layout = c.args.project.now in
     let q = c.args.question.now in
     let l = c.args.limits.now in
+    let groups = c.args.groups.now in
+    let d : Details = c.details_of-details.result in
+    let same : d ≡ details_of (Named c.in-Named.form) l groups = c.details_of-details.ensures ∙ ap (λ k. details_of (seen_command k) l groups) c.in-Named.is in
     let form = c.in-Named.form in
-    let d : Details = record { limits = l; rules = seen_list c.none-rules.result } in
     rw c.in-Named.is (prints gives old new layout q (λ p. HoldsOfGiven (reading gives) old new layout (IsNamedBy form q d p)) _ _ _
-    (λ p h. holds gives old new layout (IsNamedBy form q (record { limits = l; rules = no_rules }) p)
-    (subst (λ (r : RuleList). HoldsOfGiven (reading gives) old new layout (IsNamedBy form q (record { limits = l; rules = r }) p)) c.none-rules.ensures h))
+    (λ p h. holds gives old new layout (IsNamedBy form q (details_of (Named form) l groups) p)
+    (subst (λ (x : Details). HoldsOfGiven (reading gives) old new layout (IsNamedBy form q x p)) same h))
     c.run_named-ended.ensures.written c.run_named-ended.ensures.unread)
 returns-in-Named-clause-printed g c Promise notes =
     let gives = g.I.Inputs.gives in
@@ -204,32 +214,63 @@ returns-in-Named-clause-printed g c Promise notes =
     let layout = c.args.project.now in
     let q = c.args.question.now in
     let l = c.args.limits.now in
+    let groups = c.args.groups.now in
+    let d : Details = c.details_of-details.result in
+    let same : d ≡ details_of (Named c.in-Named.form) l groups = c.details_of-details.ensures ∙ ap (λ k. details_of (seen_command k) l groups) c.in-Named.is in
     let form = c.in-Named.form in
-    let d : Details = record { limits = l; rules = seen_list c.none-rules.result } in
     rw c.in-Named.is (prints gives old new layout q (λ p. HoldsOfGiven (reading gives) old new layout (λ _ listing. NamedHeadline form q d p listing)) _ _ _
-    (λ p h. holds gives old new layout (λ _ listing. NamedHeadline form q (record { limits = l; rules = no_rules }) p listing)
-    (subst (λ (r : RuleList). HoldsOfGiven (reading gives) old new layout (λ _ listing. NamedHeadline form q (record { limits = l; rules = r }) p listing)) c.none-rules.ensures h))
+    (λ p h. holds gives old new layout (λ _ listing. NamedHeadline form q (details_of (Named form) l groups) p listing)
+    (subst (λ (x : Details). HoldsOfGiven (reading gives) old new layout (λ _ listing. NamedHeadline form q x p listing)) same h))
     c.run_named-ended.ensures.headline c.run_named-ended.ensures.unread)
+
+pub returns-in-None-format-clause-printed : goal.returns-in-None-format-clause-printed
+returns-in-None-format-clause-printed g c Content notes =
+    let gives = g.I.Inputs.gives in
+    let old = c.args.files in
+    let new = c.run_cost-ended.result.1 in
+    let layout = c.args.project.now in
+    let q = c.args.question.now in
+    let top = c.in-Cost.top in
+    rw (c.in-Cost.is, c.in-None-format.is) (prints gives old new layout q (λ p. HoldsOfGiven (reading gives) old new layout (IsCostBy top c.args.groups.now q p)) _ _ _
+    (λ p h. holds gives old new layout (IsCostBy top c.args.groups.now q p) h) c.run_cost-ended.ensures.written c.run_cost-ended.ensures.unread)
+returns-in-None-format-clause-printed g c Promise notes =
+    let gives = g.I.Inputs.gives in
+    let old = c.args.files in
+    let new = c.run_cost-ended.result.1 in
+    let layout = c.args.project.now in
+    let q = c.args.question.now in
+    let top = c.in-Cost.top in
+    rw c.in-Cost.is (prints gives old new layout q (λ p. HoldsOfGiven (reading gives) old new layout (IsCostBy top c.args.groups.now q p)) _ _ _
+    (λ p h. tt) c.run_cost-ended.ensures.written c.run_cost-ended.ensures.unread)
 
 pub returns-in-Cost-clause-printed : goal.returns-in-Cost-clause-printed
 returns-in-Cost-clause-printed g c Content notes =
     let gives = g.I.Inputs.gives in
     let old = c.args.files in
-    let new = c.run_cost-ended.result.1 in
+    let new = c.run_named-ended-in-Some-format.result.1 in
     let layout = c.args.project.now in
     let q = c.args.question.now in
-    let top = c.in-Cost.top in
-    rw c.in-Cost.is (prints gives old new layout q (λ p. HoldsOfGiven (reading gives) old new layout (IsCostBy top q p)) _ _ _
-    (λ p h. holds gives old new layout (IsCostBy top q p) h) c.run_cost-ended.ensures.written c.run_cost-ended.ensures.unread)
+    let l = c.args.limits.now in
+    let groups = c.args.groups.now in
+    let d : Details = c.details_of-details-in-Some-format.result in
+    let same : d ≡ details_of (Cost (Some c.in-Some-format.format) c.in-Cost.top) l groups = c.details_of-details-in-Some-format.ensures ∙ ap (λ k. details_of (seen_command k) l groups) c.in-Cost.is
+    ∙ ap (λ (f : Option Format). details_of (Cost f c.in-Cost.top) l groups) c.in-Some-format.is in
+    let form = c.cost_form-form.result in
+    rw (c.in-Cost.is, c.in-Some-format.is) (prints gives old new layout q (λ p. HoldsOfGiven (reading gives) old new layout (IsNamedBy form q d p)) _ _ _
+    (λ p h. holds gives old new layout (IsNamedBy (cost_form c.in-Some-format.format) q (details_of (Cost (Some c.in-Some-format.format) c.in-Cost.top) l groups) p)
+    (subst (λ (x : Details). HoldsOfGiven (reading gives) old new layout (IsNamedBy (cost_form c.in-Some-format.format) q x p)) same
+    (subst (λ (f : NamedForm). HoldsOfGiven (reading gives) old new layout (IsNamedBy f q d p)) c.cost_form-form.ensures h)))
+    c.run_named-ended-in-Some-format.ensures.written c.run_named-ended-in-Some-format.ensures.unread)
 returns-in-Cost-clause-printed g c Promise notes =
     let gives = g.I.Inputs.gives in
     let old = c.args.files in
-    let new = c.run_cost-ended.result.1 in
+    let new = c.run_named-ended-in-Some-format.result.1 in
     let layout = c.args.project.now in
     let q = c.args.question.now in
-    let top = c.in-Cost.top in
-    rw c.in-Cost.is (prints gives old new layout q (λ p. HoldsOfGiven (reading gives) old new layout (IsCostBy top q p)) _ _ _
-    (λ p h. tt) c.run_cost-ended.ensures.written c.run_cost-ended.ensures.unread)
+    let d : Details = c.details_of-details-in-Some-format.result in
+    let form = c.cost_form-form.result in
+    rw c.in-Cost.is (prints gives old new layout q (λ p. HoldsOfGiven (reading gives) old new layout (IsNamedBy form q d p)) _ _ _
+    (λ p h. tt) c.run_named-ended-in-Some-format.ensures.written c.run_named-ended-in-Some-format.ensures.unread)
 
 pub returns-in-Ok-clause-printed : goal.returns-in-Ok-clause-printed
 returns-in-Ok-clause-printed g c Content notes =

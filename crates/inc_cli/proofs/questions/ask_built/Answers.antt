@@ -21,10 +21,10 @@ returns-in-Ok g c known not =
     let o = opened_in c.args.opened.now in
     let layout = c.args.project.now in
     let P = IsAnswered gives (IsKnown known gives (record { opens = g.I.Inputs.opens; left = g.I.Stream.ByteSource.left }) command) command in
-    let out = output_of (g.O.ByteSink.written c.args.out) (g.O.ByteSink.written c.ask_marked.result.1) (g.O.ByteSink.has_failed c.ask_marked.result.1) in
-    run_then (named_places gives (listed_by language o layout) q l c.args.marks.without.items c.args.marks.fixed.items) (with_marks language command q l o layout (built_in c.args.built)) P
-    c.args.inputs c.named_marks.new.inputs out (seen_end c.ask_marked.result.0) (seen_marked c.named_marks.result) (marked_in c.in-Ok.marks) (ap seen_marked c.in-Ok.is)
-    c.named_marks.ensures (c.ask_marked.ensures known not)
+    let out = output_of (g.O.ByteSink.written c.args.out) (g.O.ByteSink.written c.ask_beside.result.1) (g.O.ByteSink.has_failed c.ask_beside.result.1) in
+    run_then (named_places gives (listed_by language o layout) q l c.args.marks.without.items c.args.marks.fixed.items) (with_marks gives language command q l o layout (built_in c.args.built)) P
+    c.args.inputs c.named_marks.new.inputs out (seen_end c.ask_beside.result.0) (seen_marked c.named_marks.result) (marked_in c.in-Ok.marks) (ap seen_marked c.in-Ok.is)
+    c.named_marks.ensures (c.ask_beside.ensures known not)
 
 pub returns-in-Err : goal.returns-in-Err
 returns-in-Err g c known not =
@@ -39,5 +39,5 @@ returns-in-Err g c known not =
     let keeps : Keeps written written = search rules in
     let P = IsAnswered gives (IsKnown known gives (record { opens = g.I.Inputs.opens; left = g.I.Stream.ByteSource.left }) command) command in
     let out = output_of written written (g.O.ByteSink.has_failed c.args.out) in
-    run_err (named_places gives (listed_by language o layout) q l c.args.marks.without.items c.args.marks.fixed.items) (with_marks language command q l o layout (built_in c.args.built)) P
+    run_err (named_places gives (listed_by language o layout) q l c.args.marks.without.items c.args.marks.fixed.items) (with_marks gives language command q l o layout (built_in c.args.built)) P
     c.args.inputs c.named_marks.new.inputs out _ (seen_marked c.named_marks.result) (report_of c.in-Err.failure) (ap seen_marked c.in-Err.is) refl c.named_marks.ensures keeps not

@@ -1,4 +1,4 @@
-use Rattle.std.proofs.Common.{◌≡◌, ◌∙◌, List, ℕ, ap, arith, length}
+use Rattle.std.proofs.Common.{◌∙◌, List, ℕ, ap, arith, length}
 use Rattle.std.proofs.lemmas.List.FromFn.{length-map-range_with_len}
 use Rattle.inc_report.specs.CostText.{header_bytes_at}
 use Rattle.inc_report.proofs.cost.rank.Goals as goal

@@ -6,4 +6,4 @@ returns g c =
     let total = rw c.sources.ensures.sources at c.send_total.ensures in
     let headers = rw c.deref.ensures.value at c.send_headers.ensures in
     let directives = rw c.deref-2.ensures.value at c.send_directives.ensures in
-    sends_then _ _ _ _ _ (sends_then _ _ _ _ _ (sends_then _ _ _ _ _ total headers) directives) c.send_unknown.ensures
+    sends_then _ _ _ _ _ (sends_then _ _ _ _ _ (sends_then _ _ _ _ _ (sends_then _ _ _ _ _ total headers) c.send_groups.ensures) directives) c.send_unknown.ensures

@@ -1,6 +1,4 @@
 use Rattle.std.proofs.Common.{length, refl}
-use Rattle.inc_report.specs.CostText.{IsCostFor}
-use Rattle.inc_report.specs.Strictness.{Strict, strays_of}
 use Rattle.inc_report.proofs.CostLemmas.{of_no_sized, of_sized}
 use Rattle.inc_report.proofs.InnerSources.{fails_inner}
 use Rattle.inc_report.proofs.WritingLemmas.{prints_all}
@@ -11,13 +9,13 @@ returns-in-Ok-clause-sent g c =
     let sent = rw c.deref.ensures.value at c.weigh_strictly.ensures.sent in
     prints_all _ _ _ _ c.weigh_strictly.result
     (λ p is. of_sized g.S.Sources.gives c.args.sized.now c.find_graph.new.sources c.args.project.now c.args.question.now c.in-Ok.graph p
-    (length c.args.project.now.paths) c.requires refl c.in-Ok.ensures.known (c.in-Ok.ensures.graph p) c.args.most is)
+    (length c.args.project.now.paths) c.requires refl c.in-Ok.ensures.known (c.in-Ok.ensures.graph p) c.args.most c.args.groups.now is)
     sent
 
 pub returns-in-Err-clause-sent : goal.returns-in-Err-clause-sent
 returns-in-Err-clause-sent g c =
     prints_all _ _ _ _ c.refuse_question.result
-    (λ p is. of_no_sized g.S.Sources.gives c.args.sized.now c.find_graph.new.sources c.args.project.now c.args.question.now c.args.most p (c.in-Err.ensures.stopped p is))
+    (λ p is. of_no_sized g.S.Sources.gives c.args.sized.now c.find_graph.new.sources c.args.project.now c.args.question.now c.args.most c.args.groups.now p (c.in-Err.ensures.stopped p is))
     c.refuse_question.ensures.sent
 
 pub returns-in-Err-clause-unread : goal.returns-in-Err-clause-unread

@@ -1,8 +1,7 @@
 use Rattle.std.proofs.Common.{[], ap, length, refl, subst}
 use Rattle.inc_text.specs.declared.languages.Language.{Language}
-use Rattle.inc_report.specs.DirectiveNames.{kind_of}
 use Rattle.inc_report.specs.KeptFiles.{OfKept}
-use Rattle.inc_report.specs.NamedText.{IsInFormat, IsStrictOf}
+use Rattle.inc_report.specs.NamedText.{IsInFormat, IsStrictOf, kept_sight}
 use Rattle.inc_report.specs.Printed.{Printed, answered}
 use Rattle.inc_report.specs.Terms.{Question}
 use Rattle.inc_report.specs.Writing.{Prints}
@@ -21,12 +20,14 @@ returns-in-Ok-clause-sent g c =
     let q = c.args.question.now in
     prints_all
     (λ (p : Printed). (plain : Printed) × OfKept c.find_graph.new.sources.files c.args.project.now (λ listing.
-    IsStrictOf c.args.form q c.args.details.now q.language listing c.args.project.now c.in-Ok.graph plain × IsInFormat c.args.form q c.args.project.now (kind_of q.language listing) plain p))
+    IsStrictOf c.args.form q c.args.details.now q.language listing c.args.project.now c.in-Ok.graph plain
+    × IsInFormat c.args.form q c.args.project.now (kept_sight q.language listing c.args.project.now c.find_graph.new.sources.files) plain p))
     _ _ _ c.answer_strictly.result
     (λ p is. named_given g.S.Sources.gives c.args.kept.now c.find_graph.new.sources c.args.project.now c.args.form c.args.question.now c.args.details.now p is.0 c.in-Ok.graph
-    (length c.args.project.now.paths) c.requires is.1 (c.in-Ok.ensures.graph is.0))
+    c.requires is.1 (c.in-Ok.ensures.graph is.0))
     (subst (λ (language : Language). Prints (λ (p : Printed). (plain : Printed) × OfKept c.find_graph.new.sources.files c.args.project.now (λ listing.
-    IsStrictOf c.args.form q c.args.details.now language listing c.args.project.now c.in-Ok.graph plain × IsInFormat c.args.form q c.args.project.now (kind_of language listing) plain p))
+    IsStrictOf c.args.form q c.args.details.now language listing c.args.project.now c.in-Ok.graph plain
+    × IsInFormat c.args.form q c.args.project.now (kept_sight language listing c.args.project.now c.find_graph.new.sources.files) plain p))
     c.args.out.now c.answer_strictly.new.out c.answer_strictly.result) (ap (λ (x : Question). x.language) c.question.view_is) c.answer_strictly.ensures.sent)
 
 pub returns-in-Err-clause-sent : goal.returns-in-Err-clause-sent

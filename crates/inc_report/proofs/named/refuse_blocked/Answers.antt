@@ -1,7 +1,10 @@
-use Rattle.std.proofs.Common.{sym}
+use Rattle.std.proofs.Common.{◌∙◌, List, ap, sym, ℕ}
+use Rattle.inc_graph.specs.declared.graphs.Blocker.{Blocker}
 use Rattle.inc_report.specs.DirectiveNames.{kept_kind}
+use Rattle.inc_report.specs.JsonRefusals.{refusal_json}
+use Rattle.inc_report.specs.NamedText.{command_name}
 use Rattle.inc_report.specs.Refusals.{Blocked}
-use Rattle.inc_report.proofs.NamedLemmas.{as_text, blocked_made, no_object}
+use Rattle.inc_report.proofs.NamedLemmas.{as_object, as_text, blocked_made, no_object}
 use Rattle.inc_report.proofs.WritingLemmas.{prints_one}
 use Rattle.inc_report.proofs.named.refuse_blocked.Goals as goal
 
@@ -16,3 +19,17 @@ returns-in-Gcc g c =
           c.send_blocked.ensures;
       fault = tt;
     }
+
+pub returns-in_ok-text-in-Json-clause-sent : goal.returns-in_ok-text-in-Json-clause-sent
+returns-in_ok-text-in-Json-clause-sent g c =
+    let s = c.args.subject in
+    let form = c.args.form in
+    let bs = c.blockers-blockers.result.now in
+    let kind = kept_kind s.language s.files.now in
+    prints_one _ _ _ _ _
+    (blocked_made form c.args.question.now s c.in_ok-names.names bs _ _ c.in_ok-names.ensures (sym c.blockers-blockers.ensures.blockers) c.in_ok-reasons.ensures.reasons
+    (c.in_ok-text-in-Json.ensures
+    ∙ ap (λ (command : List ℕ). refusal_json command kind (Blocked s.project.now s.graph.now.blockers)) c.name.ensures
+    ∙ ap (λ (l : List Blocker). refusal_json (command_name form.asked) kind (Blocked s.project.now l)) (sym c.blockers-blockers.ensures.blockers)
+    ∙ sym (as_object form kind (Blocked s.project.now bs) c.in-Json.is)))
+    c.send.ensures

@@ -2,7 +2,7 @@ use Rattle.std.proofs.Common.{◌≡◌, ◌∙◌, None, ap, subst}
 use Rattle.inc_graph.specs.MarkedEdges.{amounts_by, marks_fault}
 use Rattle.inc_report.specs.CutDocument.{has_costs}
 use Rattle.inc_report.specs.NamedText.{IsHinderedKept}
-use Rattle.inc_report.specs.Terms.{Details, Limits}
+use Rattle.inc_report.specs.Terms.{Details, Limits, is_whole}
 use Rattle.inc_report.proofs.NamedLemmas.{cut_report, hindered}
 use Rattle.inc_report.proofs.WritingLemmas.{prints_all, prints_one}
 use Rattle.inc_report.proofs.named.separate.Goals as goal
@@ -15,7 +15,7 @@ returns-in_ok-smallest-in-Ok-clause-sent g c =
     (cut_report c.args.form c.args.question.now c.args.details.now s c.requires.kept _ _ _ c.requires.asked
     (c.has_costs-costed.ensures ∙ ap (λ (l : Limits). has_costs l.costs) c.limits.view_is ∙ ap (λ (l : Limits). has_costs l.costs) limits) c.in-Ok.ensures.open
     (subst (λ (l : Limits). marks_fault s.project.now s.graph.now l.fixed l.costs ≡ None) limits c.in-Ok.ensures.named)
-    (c.in-Ok.ensures.fixed ∙ ap (λ (l : Limits). amounts_by s.project.now s.graph.now l.kept l.fixed l.costs) limits) c.in_ok-smallest-in-Ok.ensures)
+    (c.in-Ok.ensures.fixed ∙ ap (λ (l : Limits). amounts_by s.project.now s.graph.now l.kept l.fixed l.costs) limits) (c.in_ok-smallest-in-Ok.ensures (is_whole c.args.question.now)))
     c.send.ensures
 
 pub returns-in-Err-clause-sent : goal.returns-in-Err-clause-sent

@@ -1,5 +1,6 @@
 use Rattle.std.proofs.Common.{List, ℕ, refl, ap₂, ◌∙◌}
 use Rattle.inc_report.specs.Printed.{end_of}
+use Rattle.inc_report.specs.Terms.{is_whole}
 use Rattle.inc_report.specs.WhoText.{who_printed}
 use Rattle.inc_report.specs.declared.outcome.EndKind.{EndKind}
 use Rattle.inc_report.proofs.SendingLemmas.{sends_then}
@@ -12,7 +13,7 @@ send_reaching-requires-clause-edges g c = reaching-within c.args.graph.now _ _ c
 pub returns-clause-sent : goal.returns-clause-sent
 returns-clause-sent g c = record {
   text = (
-    who_printed c.args.with_chains c.args.fails c.args.most c.args.project.now c.args.graph.now c.in_ok-reaching.reaching.left c.in_ok-chains.chains.left,
+    who_printed (is_whole c.args.question.now) c.args.with_chains c.args.fails c.args.most c.args.project.now c.args.graph.now c.in_ok-reaching.reaching.left c.in_ok-chains.chains.left,
     (c.in_ok-reaching.reaching.left, c.in_ok-chains.chains.left, c.in_ok-reaching.ensures.all, c.in_ok-chains.ensures.all, refl),
     record {
       ends = c.noted.ensures ∙ ap₂ (λ (n : List ℕ) (k : EndKind). end_of n k) c.in_ok-notes.ensures c.kind_of-kind.ensures;

@@ -2,6 +2,7 @@ use Rattle.std.proofs.Common.{[], Some, None, refl, ap, subst, sym, ◌∙◌}
 use Rattle.inc_graph.specs.Chains.{IsShortestOrNone, AreChainsByLast}
 use Rattle.inc_graph.specs.IncludeGraph.{Graph}
 use Rattle.inc_report.specs.Printed.{end_of}
+use Rattle.inc_report.specs.Terms.{is_whole}
 use Rattle.inc_report.specs.WhyText.{why_printed}
 use Rattle.inc_report.specs.declared.outcome.EndKind.{EndKind}
 use Rattle.inc_report.specs.declared.outcome.EndKind.TheVariants.{Answered}
@@ -15,7 +16,7 @@ returns-then-find_shortest-clause-sent g c =
     let by_last = subst (AreChainsByLast graph 0) (sym c.find_shortest.ensures.left) c.in_ok-chains.ensures.all in
     record {
       text = (
-        why_printed c.args.fails c.args.most c.args.project.now graph (Some chains.chain) chains.left,
+        why_printed (is_whole c.args.question.now) c.args.fails c.args.most c.args.project.now graph (Some chains.chain) chains.left,
         (Some chains.chain, chains.left, shortest, by_last, refl),
         record { ends = c.plain.ensures ∙ ap (λ (k : EndKind). end_of [] k) c.reached_kind.ensures; sent = c.send_reached.ensures },
       );
@@ -30,7 +31,7 @@ returns-clause-sent g c =
     let by_last = subst (AreChainsByLast graph 0) (sym c.find_shortest.ensures.left) c.in_ok-chains.ensures.all in
     record {
       text = (
-        why_printed c.args.fails c.args.most c.args.project.now graph None chains.left,
+        why_printed (is_whole c.args.question.now) c.args.fails c.args.most c.args.project.now graph None chains.left,
         (None, chains.left, none, by_last, refl),
         record { ends = c.noted.ensures ∙ ap (λ n. end_of n Answered) c.in_ok-notes.ensures; sent = c.send_unreached.ensures },
       );

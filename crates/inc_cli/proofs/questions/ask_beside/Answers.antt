@@ -1,0 +1,46 @@
+use Rattle.std.proofs.Common.{ap, refl, rules}
+use Rattle.std.specs.Io.KnownBytes.{Keeps}
+use Rattle.inc_args.specs.Views.{seen_limits, seen_question}
+use Rattle.inc_inputs.specs.Baselines.{accepted}
+use Rattle.inc_inputs.specs.Reports.{report_of}
+use Rattle.inc_inputs.specs.Views.{accepted_in, seen_accepted}
+use Rattle.inc_cli.specs.Commands.{baseline_of}
+use Rattle.inc_cli.specs.Questions.{IsAnswered, IsKnown}
+use Rattle.inc_cli.specs.Runs.{listed_by}
+use Rattle.inc_cli.specs.Views.{built_in, opened_in, output_of, seen_command, seen_end}
+use Rattle.inc_cli.proofs.Askings.{with_accepted}
+use Rattle.inc_cli.proofs.RunLemmas.{run_err, run_then}
+use Rattle.inc_cli.proofs.questions.ask_beside.Goals as goal
+
+pub returns-in-Ok : goal.returns-in-Ok
+returns-in-Ok g c known not =
+    let gives = g.I.Inputs.gives in
+    let language = c.args.setup.now.language in
+    let command = seen_command c.args.asking.command in
+    let q = seen_question c.args.asking.question.now in
+    let l = seen_limits c.args.asking.limits.now in
+    let o = opened_in c.args.opened.now in
+    let layout = c.args.project.now in
+    let b = built_in c.args.built in
+    let P = IsAnswered gives (IsKnown known gives (record { opens = g.I.Inputs.opens; left = g.I.Stream.ByteSource.left }) command) command in
+    let out = output_of (g.O.ByteSink.written c.args.out) (g.O.ByteSink.written c.ask_marked.result.1) (g.O.ByteSink.has_failed c.ask_marked.result.1) in
+    run_then (accepted gives (listed_by language o layout) (baseline_of command) c.args.marks.without.items b.notes) (with_accepted language command q l c.args.marks.fixed.items o layout b) P
+    c.args.inputs c.accepted_marks.new.inputs out (seen_end c.ask_marked.result.0) (seen_accepted c.accepted_marks.result) (accepted_in c.in-Ok.accepted) (ap seen_accepted c.in-Ok.is)
+    c.accepted_marks.ensures (c.ask_marked.ensures known not)
+
+pub returns-in-Err : goal.returns-in-Err
+returns-in-Err g c known not =
+    let gives = g.I.Inputs.gives in
+    let language = c.args.setup.now.language in
+    let command = seen_command c.args.asking.command in
+    let q = seen_question c.args.asking.question.now in
+    let l = seen_limits c.args.asking.limits.now in
+    let o = opened_in c.args.opened.now in
+    let layout = c.args.project.now in
+    let b = built_in c.args.built in
+    let written = g.O.ByteSink.written c.args.out in
+    let keeps : Keeps written written = search rules in
+    let P = IsAnswered gives (IsKnown known gives (record { opens = g.I.Inputs.opens; left = g.I.Stream.ByteSource.left }) command) command in
+    let out = output_of written written (g.O.ByteSink.has_failed c.args.out) in
+    run_err (accepted gives (listed_by language o layout) (baseline_of command) c.args.marks.without.items b.notes) (with_accepted language command q l c.args.marks.fixed.items o layout b) P
+    c.args.inputs c.accepted_marks.new.inputs out _ (seen_accepted c.accepted_marks.result) (report_of c.in-Err.failure) (ap seen_accepted c.in-Err.is) refl c.accepted_marks.ensures keeps not

@@ -1,0 +1,126 @@
+//! What includes cost, with directives as they are written.
+ghost use Rattle.std.specs.Prelude.{◌≡◌, ◌<◌, ℕ, List, [], None, length, IfOk};
+ghost use Rattle.std.specs.List.{All};
+ghost use Rattle.std.specs.Option.{option_map_or};
+ghost use Rattle.inc_report.specs.CostViews.{IsInside, seen_ranked};
+ghost use Rattle.inc_report.specs.DotText.{dot_text, drawn};
+ghost use Rattle.inc_report.specs.FileSizes.{kept_sizes};
+ghost use Rattle.inc_report.specs.JsonAnswers.{about_subject};
+ghost use Rattle.inc_report.specs.KeptFiles.{kept_at};
+ghost use Rattle.inc_report.specs.NamedText.{IsCostReport, cost_answer};
+ghost use Rattle.inc_report.specs.RuleViews.{seen_costs};
+ghost use Rattle.inc_report.specs.Told.{told_printed};
+
+use crate::asked::CostWords;
+use crate::cost::{Ranked, id_of, rank_costs};
+use crate::cost_document::cost_document;
+use crate::cost_json::cost_json;
+use crate::dot_text::edges_dot;
+use crate::kept_sources::KeptFiles;
+use crate::missing_notes::empty_notes;
+use crate::named::{Format, NamedForm, lines_of};
+use crate::outcome::EndKind;
+use crate::subjects::{Subject, Told};
+use inc_graph::{EdgeId, Graph};
+use inc_lookup::Project;
+use std::alloc::{AllocError, Global};
+
+/// What the includes of a graph cost, by the bytes that are kept of its files.
+pub(crate) fn tell_costs(
+    alloc: Global,
+    subject: Subject<'_>,
+    words: CostWords<'_>,
+    form: NamedForm,
+) -> Result<Told, AllocError>
+    requires { subject.graph.now.files ≡ length subject.project.now.paths }
+    ensures { IfOk result (λ told. IsCostReport form (seen_costs words.entry) (kept_sizes subject.entry.files.now (length subject.entry.project.now.paths))
+        (about_subject subject.entry) (told_printed told)) }
+{
+    let Subject {
+        project,
+        graph,
+        files,
+        ..
+    } = subject;
+    let sizes = kept_sizes(alloc, project, files)?;
+    let ranked = rank_costs(alloc, project, graph, &sizes, words.most, words.groups)?;
+    let notes = empty_notes(alloc, project, graph)?;
+    Ok(Told {
+        text: cost_text(alloc, subject, &ranked, form.format)?,
+        kind: EndKind::Answered,
+        notes,
+    })
+}
+
+/// How many bytes are kept of each file.
+fn kept_sizes(
+    alloc: Global,
+    project: &Project<'_>,
+    files: &KeptFiles,
+) -> Result<Vec<u32>, AllocError>
+    ensures { IfOk result (λ sizes. sizes.items ≡ kept_sizes files.now (length project.now.paths)) }
+{
+    let count = project.count();
+    let mut sizes = Vec::with_capacity(alloc, count)?;
+    for place in 0..count {
+        sizes.push(kept_size(project, files, place))?;
+    }
+    Ok(sizes)
+}
+
+/// How many bytes are kept of the file at a place.
+fn kept_size(project: &Project<'_>, files: &KeptFiles, place: usize) -> u32
+    requires { place < length project.now.paths }
+    ensures { result ≡ option_map_or (λ (bytes : List ℕ). length bytes) (kept_at files.now place) 0 }
+{
+    let Some(file) = project.at(place) else {
+        return 0;
+    };
+    match files.bytes(file) {
+        Some(bytes) => bytes.len() as u32,
+        None => 0,
+    }
+}
+
+/// The text of what is ranked.
+fn cost_text(
+    alloc: Global,
+    subject: Subject<'_>,
+    ranked: &Ranked<'_>,
+    format: Format,
+) -> Result<Vec<u8>, AllocError>
+    requires files { subject.graph.now.files ≡ length subject.project.now.paths }
+    requires within { IsInside subject.project.now subject.graph.now ranked.now }
+    ensures { IfOk result (λ text. text.items ≡ cost_answer format (about_subject subject.entry) (seen_ranked ranked.now)) }
+{
+    match format {
+        Format::Gcc => {
+            let document = cost_document(alloc, subject.project, subject.graph, ranked)?;
+            lines_of(alloc, subject, &document)
+        }
+        Format::Json => cost_json(alloc, subject, ranked),
+        Format::Dot => places_dot(alloc, subject, &ranked.edges),
+    }
+}
+
+/// The graph of the edges at these places.
+fn places_dot(alloc: Global, subject: Subject<'_>, places: &[usize]) -> Result<Vec<u8>, AllocError>
+    requires files { subject.graph.now.files ≡ length subject.project.now.paths }
+    requires edges { All (λ i. i < length subject.graph.now.edges) places.now }
+    ensures { IfOk result (λ text. text.items ≡ dot_text subject.entry.project.now subject.entry.graph.now (drawn places.now [] None)) }
+{
+    let edges = edges_at(alloc, subject.graph, places)?;
+    edges_dot(alloc, subject, &edges)
+}
+
+/// The edges at these places.
+fn edges_at(alloc: Global, graph: &Graph, places: &[usize]) -> Result<Vec<EdgeId>, AllocError>
+    requires { All (λ i. i < length graph.now.edges) places.now }
+    ensures { IfOk result (λ edges. edges.items ≡ places.now) }
+{
+    let mut edges = Vec::with_capacity(alloc, places.len())?;
+    for place in places {
+        edges.push(id_of(graph, *place))?;
+    }
+    Ok(edges)
+}
