@@ -19,6 +19,7 @@ complete -c incut -n '__fish_seen_subcommand_from help' -f -a 'scan why who grap
 complete -c incut -n '__fish_seen_subcommand_from why who graph rules cost cut check pp' -s p -r -d 'Compilation database'
 complete -c incut -n '__fish_seen_subcommand_from why who graph rules cost cut check pp' -l files -r -d 'Paths of the project'
 complete -c incut -n '__fish_seen_subcommand_from why who graph rules cost cut check pp' -l root -x -a '(__fish_complete_directories)' -d 'Take the C files below a folder'
+complete -c incut -n '__fish_seen_subcommand_from why who graph rules cost cut check pp' -l exclude -x -d 'Leave out the files of a glob'
 complete -c incut -n '__fish_seen_subcommand_from why who graph rules cost cut check pp' -l follow -d 'Follow links on the way to a file of LIST'
 complete -c incut -n '__fish_seen_subcommand_from why who graph rules cost cut check pp' -s 0 -l null -d 'Paths of LIST end in NUL'
 complete -c incut -n '__fish_seen_subcommand_from why who graph rules cost cut check pp' -s I -x -a '(__fish_complete_directories)' -d 'Add to the include path'

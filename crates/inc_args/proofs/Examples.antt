@@ -7,7 +7,7 @@ use Rattle.inc_args.specs.Refusals.{refusals}
 
 -- the files of f, whose paths end in NUL, with two search directories
 abbrev pub files : FileWords
-files = record { build = None; list = Some (codes "f"); is_null = true; roots = []; dirs = codes "a" ∷ codes "b" ∷ []; quoted = []; system = []; last = [] }
+files = record { build = None; command = []; list = Some (codes "f"); is_null = true; roots = []; exclude = []; dirs = codes "a" ∷ codes "b" ∷ []; quoted = []; system = []; last = [] }
 
 abbrev pub cut_words : List Text
 cut_words =
@@ -39,7 +39,7 @@ standard_input_is_scanned = refl
 pub sources_are_preprocessed : meaning (codes "incut" ∷ codes "pp" ∷ codes "--files" ∷ codes "f" ∷ codes "-DA" ∷ codes "x.c" ∷ codes "y.c" ∷ codes "-D" ∷ codes "B=1" ∷ [])
     ≡ record {
       asked = Pp (record {
-        files = record { build = None; list = Some (codes "f"); is_null = false; roots = []; dirs = []; quoted = []; system = []; last = [] };
+        files = record { build = None; command = []; list = Some (codes "f"); is_null = false; roots = []; exclude = []; dirs = []; quoted = []; system = []; last = [] };
         sources = codes "x.c" ∷ codes "y.c" ∷ [];
         without = None;
         defines = None;
@@ -63,7 +63,7 @@ sources_are_preprocessed = refl
 pub sets_are_asked : meaning (codes "incut" ∷ codes "why" ∷ codes "--files" ∷ codes "f" ∷ codes "--from=*.c" ∷ codes "--to" ∷ codes "a.h" ∷ codes "--from" ∷ codes "x" ∷ codes "--format" ∷ codes "gcc" ∷ [])
     ≡ record {
       asked = Why (record {
-        files = record { build = None; list = Some (codes "f"); is_null = false; roots = []; dirs = []; quoted = []; system = []; last = [] };
+        files = record { build = None; command = []; list = Some (codes "f"); is_null = false; roots = []; exclude = []; dirs = []; quoted = []; system = []; last = [] };
         source = None;
         header = None;
         from = codes "*.c" ∷ codes "x" ∷ [];
@@ -85,7 +85,7 @@ sets_are_asked = refl
 pub sources_are_asked : meaning (codes "incut" ∷ codes "who" ∷ codes "--files" ∷ codes "f" ∷ codes "--chains" ∷ codes "--format" ∷ codes "gcc" ∷ codes "--undefined" ∷ codes "N" ∷ codes "a.h" ∷ [])
     ≡ record {
       asked = Who (record {
-        files = record { build = None; list = Some (codes "f"); is_null = false; roots = []; dirs = []; quoted = []; system = []; last = [] };
+        files = record { build = None; command = []; list = Some (codes "f"); is_null = false; roots = []; exclude = []; dirs = []; quoted = []; system = []; last = [] };
         source = None;
         header = Some (codes "a.h");
         from = codes "**.c" ∷ [];
@@ -107,7 +107,7 @@ sources_are_asked = refl
 pub edges_are_asked : meaning (codes "incut" ∷ codes "graph" ∷ codes "-q" ∷ codes "--from" ∷ codes "a.c" ∷ codes "--drop=a.c:3" ∷ codes "--files" ∷ codes "f" ∷ codes "--from" ∷ codes "b.c" ∷ [])
     ≡ record {
       asked = Graph (record {
-        files = record { build = None; list = Some (codes "f"); is_null = false; roots = []; dirs = []; quoted = []; system = []; last = [] };
+        files = record { build = None; command = []; list = Some (codes "f"); is_null = false; roots = []; exclude = []; dirs = []; quoted = []; system = []; last = [] };
         source = None;
         header = None;
         from = codes "a.c" ∷ codes "b.c" ∷ [];
@@ -129,7 +129,7 @@ edges_are_asked = refl
 pub sources_of_a_build_are_asked : meaning (codes "incut" ∷ codes "graph" ∷ codes "-pb" ∷ codes "--root=r" ∷ codes "--format=dot" ∷ [])
     ≡ record {
       asked = Graph (record {
-        files = record { build = Some (codes "b"); list = None; is_null = false; roots = codes "r" ∷ []; dirs = []; quoted = []; system = []; last = [] };
+        files = record { build = Some (codes "b"); command = []; list = None; is_null = false; roots = codes "r" ∷ []; exclude = []; dirs = []; quoted = []; system = []; last = [] };
         source = None;
         header = None;
         from = codes "**" ∷ [];
@@ -146,3 +146,36 @@ pub sources_of_a_build_are_asked : meaning (codes "incut" ∷ codes "graph" ∷ 
     }
 unfolding clap_on_literals
 sources_of_a_build_are_asked = refl
+
+-- a compiler's command is kept as it is, and its sources are asked about
+pub command_is_asked : meaning (codes "incut" ∷ codes "--gnu" ∷ codes "why" ∷ codes "--to=a.h" ∷ codes "--" ∷ codes "cc" ∷ codes "-Ix" ∷ codes "--" ∷ codes "a.c" ∷ [])
+    ≡ record {
+      asked = Why (record {
+        files = record { build = None; command = codes "cc" ∷ codes "-Ix" ∷ codes "--" ∷ codes "a.c" ∷ []; list = None; is_null = false; roots = []; exclude = []; dirs = []; quoted = []; system = []; last = [] };
+        source = None;
+        header = None;
+        from = codes "**" ∷ [];
+        to = codes "a.h" ∷ [];
+        without = None;
+        drop = [];
+        is_strict = false;
+        external = [];
+        undefined = [];
+      }) (record { name = None; is_all = false; fails = false; most = None });
+      languages = record { is_extended = false; is_gnu = true };
+      is_quiet = false;
+      follows = false;
+    }
+unfolding clap_on_literals
+command_is_asked = refl
+
+-- what a compiler has is not refused, whatever it is
+pub command_is_taken : refusals (codes "incut" ∷ codes "graph" ∷ codes "--" ∷ codes "cc" ∷ codes "--weird" ∷ []) ≡ []
+unfolding clap_on_literals
+command_is_taken = refl
+
+-- words of `scan` after it are the program's own
+pub path_after_dashes_is_scanned : meaning (codes "incut" ∷ codes "scan" ∷ codes "--" ∷ codes "-a.c" ∷ [])
+    ≡ record { asked = Scan (Some (codes "-a.c")) None; languages = record { is_extended = false; is_gnu = false }; is_quiet = false; follows = false }
+unfolding clap_on_literals
+path_after_dashes_is_scanned = refl

@@ -1,4 +1,5 @@
 pub mod AllSources
+pub mod CompilerWordLists
 pub mod Examples
 pub mod OptionWords
 pub mod Rows

@@ -52,6 +52,9 @@ build = single 112 (codes "build")
 abbrev pub root : Rule
 root = repeated_option (codes "root")
 
+abbrev pub exclude : Rule
+exclude = repeated_option (codes "exclude")
+
 -- -0, --null
 abbrev pub null : Rule
 null = record (flag (codes "null")) { short = Some 48 }
@@ -199,7 +202,7 @@ command name rules = with_rules (new_app name) rules
 
 -- what tells the files of a project
 abbrev pub list_rules : List Rule
-list_rules = build ∷ files ∷ null ∷ root ∷ follow ∷ []
+list_rules = build ∷ files ∷ null ∷ root ∷ exclude ∷ follow ∷ []
 
 -- in which directories headers are searched, and which directives are taken as removed
 abbrev pub search_rules : List Rule

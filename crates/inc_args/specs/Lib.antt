@@ -1,4 +1,5 @@
 pub mod CommandLine
+pub mod CompilerCommand
 pub mod CompilerWords
 pub mod Meaning
 pub mod Refusals

@@ -1,19 +1,22 @@
 -- What the words of the command line ask for, by the flags, options and words that `clap` finds among them.
-use Rattle.std.specs.Prelude.{◌||◌, Bool, false, List, [], ◌∷◌, Option, Some, None, if◌then◌else◌, codes, unwrap_or}
+use Rattle.std.specs.Prelude.{◌||◌, Bool, true, false, List, [], ◌∷◌, Option, Some, None, if◌then◌else◌, codes, is_some, length, nat_lt, unwrap_or}
 use Rattle.std.specs.Str.{bytes_eq}
 use Rattle.clap.specs.Words.{Row, Text, all_of, first_of, matches_of, subcommand_of}
 use Rattle.inc_args.specs.CommandLine.{incut}
+use Rattle.inc_args.specs.CompilerCommand.{compiler_words, own_words}
 
 ---- what may be asked for
 
--- the files of a project: the compilation database of its build, if a word names one; who lists them, if a word says so, whether NUL ends
--- a path of that list and not a line feed, the folders below which they are found, and the include path: the directories of one's own headers, those for
--- names between " alone, those of the system's, and the system's last ones
+-- the files of a project: the compilation database of its build, if a word names one, or the command of a compiler; who lists them, if a word says so,
+-- whether NUL ends a path of that list and not a line feed, the folders below which they are found, globs of those that are left out, and the include
+-- path: the directories of one's own headers, those for names between " alone, those of the system's, and the system's last ones
 pub record FileWords : Type 0 where
   pub build : Option Text
+  pub command : List Text
   pub list : Option Text
   pub is_null : Bool
   pub roots : List Text
+  pub exclude : List Text
   pub dirs : List Text
   pub quoted : List Text
   pub system : List Text
@@ -146,21 +149,23 @@ values_of name rows = unwrap_or (all_of name rows) []
 
 ---- what is asked for
 
-abbrev pub files_in : List Row → FileWords
-files_in rows = record {
+abbrev pub files_in : List Row → (command : List Text) → FileWords
+files_in rows command = record {
   build = first_of (codes "build") rows;
+  command = command;
   list = first_of (codes "files") rows;
   is_null = is_given (codes "null") rows;
   roots = values_of (codes "root") rows;
+  exclude = values_of (codes "exclude") rows;
   dirs = values_of (codes "include") rows;
   quoted = values_of (codes "iquote") rows;
   system = values_of (codes "isystem") rows;
   last = values_of (codes "idirafter") rows;
 }
 
-abbrev pub question_in : List Row → Question
-question_in rows = record {
-  files = files_in rows;
+abbrev pub question_in : List Row → (command : List Text) → Question
+question_in rows command = record {
+  files = files_in rows command;
   source = first_of (codes "SOURCE") rows;
   header = first_of (codes "HEADER") rows;
   from = values_of (codes "from") rows;
@@ -172,27 +177,33 @@ question_in rows = record {
   undefined = values_of (codes "undefined") rows;
 }
 
+-- there is a build: a word names one, or it is that of a compiler's command
+abbrev pub has_build : (build : Option Text) → (command : List Text) → Bool
+has_build build command = is_some build || nat_lt 0 (length command)
+
 -- the glob of the sources where no word names them: each source of the build, where there is one, and else each .c file of the project
-abbrev pub all_sources : (build : Option Text) → Text
-all_sources None = codes "**.c"
-all_sources (Some build) = codes "**"
+abbrev pub all_sources : (has_build : Bool) → Text
+all_sources false = codes "**.c"
+all_sources true = codes "**"
 
 -- the words of --from, or that glob
-abbrev pub or_all : (build : Option Text) → List Text → List Text
-or_all build [] = all_sources build ∷ []
-or_all build (word ∷ words) = word ∷ words
+abbrev pub or_all : (has_build : Bool) → List Text → List Text
+or_all is_built [] = all_sources is_built ∷ []
+or_all is_built (word ∷ words) = word ∷ words
 
-abbrev pub who_in : List Row → Question
-who_in rows = record (question_in rows) { from = or_all (first_of (codes "build") rows) (values_of (codes "from") rows) }
+abbrev pub who_in : List Row → (command : List Text) → Question
+who_in rows command =
+    record (question_in rows command) { from = or_all (has_build (first_of (codes "build") rows) command) (values_of (codes "from") rows) }
 
 -- the words of --from, or the glob of the sources of the build, where there is one and neither such a word nor one for a source
-abbrev pub or_built : (build source : Option Text) → List Text → List Text
-or_built (Some build) None words = or_all (Some build) words
-or_built build source words = words
+abbrev pub or_built : (has_build : Bool) → (source : Option Text) → List Text → List Text
+or_built true None words = or_all true words
+or_built is_built source words = words
 
-abbrev pub ends_in : List Row → Question
-ends_in rows =
-    record (question_in rows) { from = or_built (first_of (codes "build") rows) (first_of (codes "SOURCE") rows) (values_of (codes "from") rows) }
+abbrev pub ends_in : List Row → (command : List Text) → Question
+ends_in rows command = record (question_in rows command) {
+  from = or_built (has_build (first_of (codes "build") rows) command) (first_of (codes "SOURCE") rows) (values_of (codes "from") rows);
+}
 
 abbrev pub rules_in : List Row → RuleWords
 rules_in rows = record { file = first_of (codes "RULES") rows; rules = values_of (codes "rule") rows; baseline = first_of (codes "baseline") rows }
@@ -217,9 +228,9 @@ format_in all rows = record {
 abbrev pub forms_in : List Row → Forms
 forms_in rows = record { is_blank = is_given (codes "blank") rows; is_patch = is_given (codes "patch") rows; format = format_in (codes "all") rows }
 
-abbrev pub preprocessing_in : List Row → Preprocessing
-preprocessing_in rows = record {
-  files = files_in rows;
+abbrev pub preprocessing_in : List Row → (command : List Text) → Preprocessing
+preprocessing_in rows command = record {
+  files = files_in rows command;
   sources = values_of (codes "SOURCE") rows;
   without = first_of (codes "without") rows;
   defines = first_of (codes "defines") rows;
@@ -233,17 +244,17 @@ preprocessing_in rows = record {
   status = first_of (codes "status") rows;
 }
 
--- the command of this name
-abbrev pub asked_by : Text → List Row → Asked
-asked_by name rows =
-    if bytes_eq name (codes "why") then Why (ends_in rows) (format_in (codes "all") rows) else
-    if bytes_eq name (codes "who") then Who (who_in rows) (format_in (codes "chains") rows) else
-    if bytes_eq name (codes "graph") then Graph (who_in rows) (format_in (codes "all") rows) else
-    if bytes_eq name (codes "rules") then Rules (question_in rows) (rules_in rows) (format_in (codes "all") rows) else
-    if bytes_eq name (codes "cost") then Cost (who_in rows) (first_of (codes "top") rows) (format_in (codes "all") rows) else
-    if bytes_eq name (codes "cut") then Cut (ends_in rows) (limits_in rows) (forms_in rows) else
-    if bytes_eq name (codes "check") then Check (ends_in rows) (limits_in rows) (value_of (codes "CERT") rows) else
-    if bytes_eq name (codes "pp") then Pp (preprocessing_in rows) else Scan (first_of (codes "PATH") rows) (first_of (codes "format") rows)
+-- the command of this name, with that of a compiler
+abbrev pub asked_by : Text → List Row → (command : List Text) → Asked
+asked_by name rows command =
+    if bytes_eq name (codes "why") then Why (ends_in rows command) (format_in (codes "all") rows) else
+    if bytes_eq name (codes "who") then Who (who_in rows command) (format_in (codes "chains") rows) else
+    if bytes_eq name (codes "graph") then Graph (who_in rows command) (format_in (codes "all") rows) else
+    if bytes_eq name (codes "rules") then Rules (ends_in rows command) (rules_in rows) (format_in (codes "all") rows) else
+    if bytes_eq name (codes "cost") then Cost (who_in rows command) (first_of (codes "top") rows) (format_in (codes "all") rows) else
+    if bytes_eq name (codes "cut") then Cut (ends_in rows command) (limits_in rows) (forms_in rows) else
+    if bytes_eq name (codes "check") then Check (ends_in rows command) (limits_in rows) (value_of (codes "CERT") rows) else
+    if bytes_eq name (codes "pp") then Pp (preprocessing_in rows command) else Scan (first_of (codes "PATH") rows) (first_of (codes "format") rows)
 
 -- a flag that is given before a command or after it
 abbrev pub is_given_in : Text → (outer inner : List Row) → Bool
@@ -254,11 +265,11 @@ languages_in outer inner =
     record { is_extended = is_given_in (codes "extended") outer inner; is_gnu = is_given_in (codes "gnu") outer inner }
 
 -- without a command, the directives of standard input are listed
-abbrev pub meaning_of : List Row → Option (Text × List Row) → Meaning
-meaning_of rows None = record { asked = Scan None None; languages = languages_in rows []; is_quiet = false; follows = false }
-meaning_of rows (Some sub) =
+abbrev pub meaning_of : List Row → Option (Text × List Row) → (command : List Text) → Meaning
+meaning_of rows None command = record { asked = Scan None None; languages = languages_in rows []; is_quiet = false; follows = false }
+meaning_of rows (Some sub) command =
     record {
-      asked = asked_by sub.0 sub.1;
+      asked = asked_by sub.0 sub.1 command;
       languages = languages_in rows sub.1;
       is_quiet = is_given (codes "quiet") sub.1;
       follows = is_given (codes "follow") sub.1;
@@ -266,4 +277,4 @@ meaning_of rows (Some sub) =
 
 -- what the words ask for, of which the first is the program's name
 abbrev pub meaning : List Text → Meaning
-meaning words = meaning_of (matches_of incut words) (subcommand_of incut words)
+meaning words = meaning_of (matches_of incut (own_words words)) (subcommand_of incut (own_words words)) (compiler_words words)

@@ -1,5 +1,6 @@
 -- What the words ask for, as the code holds it.
 use Rattle.std.specs.Prelude.{map, option_map}
+use Rattle.std.specs.String.{string_bytes}
 use Rattle.inc_args.specs.declared.requests.Arguments.{Arguments}
 use Rattle.inc_args.specs.declared.requests.FileList.{FileList}
 use Rattle.inc_args.specs.declared.requests.FormArgs.{FormArgs}
@@ -16,9 +17,11 @@ use Rattle.inc_args.specs.Meaning.{Asked, FileWords, Format, Forms, Languages, L
 abbrev pub seen_files : FileList → FileWords
 seen_files f = record {
   build = option_map (λ b. b.now) f.build;
+  command = map string_bytes f.command.now;
   list = option_map (λ l. l.now) f.list;
   is_null = f.is_null;
   roots = map (λ r. r.now) f.roots.items;
+  exclude = map (λ g. g.now) f.exclude.items;
   dirs = map (λ d. d.now) f.dirs.items;
   quoted = map (λ d. d.now) f.quoted.items;
   system = map (λ d. d.now) f.system.items;

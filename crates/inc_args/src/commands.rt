@@ -47,6 +47,7 @@ fn with_list<'a>(alloc: Global, command: Command<'a>) -> Result<Command<'a>, All
     ensures { IfOk result (λ c. app_of c ≡ with_rules (app_of command.entry) list_rules) }
 {
     let root = "Take the C files below DIR, without --files (repeatable) [default: .]";
+    let exclude = "Leave out the files that GLOB fits (repeatable)";
     let follow = "Follow links on the way to a file of LIST";
     let build = "Take files and include path from BUILD, a compile_commands.json or its folder";
     command
@@ -54,6 +55,7 @@ fn with_list<'a>(alloc: Global, command: Command<'a>) -> Result<Command<'a>, All
         .arg(files(alloc))?
         .arg(null(alloc))?
         .arg(repeated_option(alloc, "root", "DIR", root))?
+        .arg(repeated_option(alloc, "exclude", "GLOB", exclude))?
         .arg(flag(alloc, "follow", follow))
 }
 

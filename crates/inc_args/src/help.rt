@@ -98,6 +98,11 @@ by their paths from the folder of the run, or by absolute ones:
 
   incut why -p build src/main.c net/api.h
 
+The command of a compiler after -- stands for a database with that one entry, run in this folder. Its
+sources are the words that end in .c, .h, .S, .cc, .hh and the like, but for values of options:
+
+  incut why src/main.c net/api.h -- gcc -Iinclude -DNDEBUG -c src/main.c
+
 To search other files, list them, one path a line, and give --files. One of these makes a list:
 
   git -c core.quotePath=false ls-files --deduplicate '*.c' '*.h' > files.txt
@@ -123,7 +128,7 @@ A GLOB stands for the files that it fits: `*` for any bytes but `/`, `**` for an
 directories or none, `?` for one byte but `/`, `[a-z]` and `[!a-z]` for one byte but `/`. A word with
 none of `*`, `?` and `[` names one file, as SOURCE and HEADER do. Chains lead from some source to some
 header and pass no other header. A file that --from and --to both stand for is taken as a header alone.
-With -p and neither SOURCE nor --from the sources are all of the build:
+With -p or -- and neither SOURCE nor --from the sources are all of the build:
 
   incut why -p build --to 'net/*.h'
 

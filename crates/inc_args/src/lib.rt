@@ -2,6 +2,7 @@
 #![tactic(auto)]
 
 mod commands;
+mod compiler_command;
 mod compiler_words;
 mod faults;
 mod help;

@@ -3,12 +3,14 @@ ghost use Rattle.std.specs.Prelude.{◌≡◌, [], IfOk, IfErr, map, option_map}
 ghost use Rattle.std.specs.Option.{option_map_or};
 ghost use Rattle.std.specs.String.{string_bytes};
 ghost use Rattle.clap.specs.Words.{all_of, first_of, found_of, rows_of, subcommand_rows_of};
+ghost use Rattle.inc_args.specs.CompilerCommand.{compiler_words, own_words};
 ghost use Rattle.inc_args.specs.Meaning as meaning;
 ghost use Rattle.inc_args.specs.Meaning.{asked_by, ends_in, files_in, format_in, forms_in, is_given_in, languages_in, limits_in, meaning, meaning_of, preprocessing_in, question_in, rules_in, value_of, values_of, who_in};
 ghost use Rattle.inc_args.specs.Refusals.{IsRefusal, refusals};
 ghost use Rattle.inc_args.specs.Views.{seen_arguments, seen_files, seen_format, seen_forms, seen_languages, seen_limits, seen_pp, seen_question, seen_request, seen_rules};
 
 use crate::commands::incut;
+use crate::compiler_command::split;
 use crate::faults::{ArgsFault, fault_of};
 use crate::requests::{
     Arguments, FileList, FormArgs, FormatArgs, LanguageArgs, LimitArgs, PpArgs, QuestionArgs,
@@ -17,27 +19,32 @@ use crate::requests::{
 use clap::ArgMatches;
 use std::alloc::{AllocError, Global};
 
-/// Reads the words of the command line, the name of the program first.
+/// Reads the words of the command line, the name of the program first. Those of a compiler's command are kept as they are.
 pub fn read_args<'a>(alloc: Global, words: &'a [String]) -> Result<Arguments<'a>, ArgsFault>
     ensures meaning { IfOk result (λ a. seen_arguments a ≡ meaning (map string_bytes words.entry.now)) }
     ensures taken { IfOk result (λ a. refusals (map string_bytes words.entry.now) ≡ []) }
     ensures refused { IfErr result (IsRefusal (refusals (map string_bytes words.entry.now))) }
 {
     let command = incut(alloc)?;
-    match command.try_get_matches_from(words) {
-        Ok(matches) => Ok(read_matches(alloc, &matches)?),
+    let (own, compiler) = split(words);
+    match command.try_get_matches_from(own) {
+        Ok(matches) => Ok(read_matches(alloc, &matches, compiler)?),
         Err(error) => Err(fault_of(error)),
     }
 }
 
-/// What the matches ask for.
-fn read_matches<'a>(alloc: Global, matches: &ArgMatches<'a>) -> Result<Arguments<'a>, AllocError>
+/// What the matches ask for, with a compiler's command.
+fn read_matches<'a>(
+    alloc: Global,
+    matches: &ArgMatches<'a>,
+    compiler: &'a [String],
+) -> Result<Arguments<'a>, AllocError>
     ensures { IfOk result (λ a. seen_arguments a
-        ≡ meaning_of (rows_of (found_of matches.now)) (subcommand_rows_of matches.now)) }
+        ≡ meaning_of (rows_of (found_of matches.now)) (subcommand_rows_of matches.now) (map string_bytes compiler.entry.now)) }
 {
     match matches.subcommand() {
         Some((name, inner)) => Ok(Arguments {
-            request: read_request(alloc, name, inner)?,
+            request: read_request(alloc, name, inner, compiler)?,
             languages: read_languages(matches, Some(inner)),
             is_quiet: is_given(inner, "quiet"),
             follows: is_given(inner, "follow"),
@@ -83,43 +90,58 @@ fn read_request<'a>(
     alloc: Global,
     name: &str,
     matches: &ArgMatches<'a>,
+    compiler: &'a [String],
 ) -> Result<Request<'a>, AllocError>
-    ensures { IfOk result (λ r. seen_request r ≡ asked_by name.now (rows_of (found_of matches.now))) }
+    ensures { IfOk result (λ r. seen_request r
+        ≡ asked_by name.now (rows_of (found_of matches.now)) (map string_bytes compiler.entry.now)) }
 {
     match name {
-        "why" => Ok(Request::Why(read_ends(alloc, matches)?, read_format(matches, "all"))),
-        "who" => Ok(Request::Who(read_who(alloc, matches)?, read_format(matches, "chains"))),
-        "graph" => Ok(Request::Graph(read_who(alloc, matches)?, read_format(matches, "all"))),
+        "why" => Ok(Request::Why(
+            read_ends(alloc, matches, compiler)?,
+            read_format(matches, "all"),
+        )),
+        "who" => Ok(Request::Who(
+            read_who(alloc, matches, compiler)?,
+            read_format(matches, "chains"),
+        )),
+        "graph" => Ok(Request::Graph(
+            read_who(alloc, matches, compiler)?,
+            read_format(matches, "all"),
+        )),
         "rules" => Ok(Request::Rules(
-            read_question(alloc, matches)?,
+            read_ends(alloc, matches, compiler)?,
             read_rules(alloc, matches)?,
             read_format(matches, "all"),
         )),
         "cost" => Ok(Request::Cost(
-            read_who(alloc, matches)?,
+            read_who(alloc, matches, compiler)?,
             given(matches, "top"),
             read_format(matches, "all"),
         )),
         "cut" => Ok(Request::Cut(
-            read_ends(alloc, matches)?,
+            read_ends(alloc, matches, compiler)?,
             read_limits(alloc, matches)?,
             read_forms(matches),
         )),
         "check" => Ok(Request::Check(
-            read_ends(alloc, matches)?,
+            read_ends(alloc, matches, compiler)?,
             read_limits(alloc, matches)?,
             value(matches, "CERT"),
         )),
-        "pp" => Ok(Request::Pp(read_pp(alloc, matches)?)),
+        "pp" => Ok(Request::Pp(read_pp(alloc, matches, compiler)?)),
         _ => Ok(Request::Scan(given(matches, "PATH"), given(matches, "format"))),
     }
 }
 
-fn read_pp<'a>(alloc: Global, matches: &ArgMatches<'a>) -> Result<PpArgs<'a>, AllocError>
-    ensures { IfOk result (λ p. seen_pp p ≡ preprocessing_in (rows_of (found_of matches.now))) }
+fn read_pp<'a>(
+    alloc: Global,
+    matches: &ArgMatches<'a>,
+    compiler: &'a [String],
+) -> Result<PpArgs<'a>, AllocError>
+    ensures { IfOk result (λ p. seen_pp p ≡ preprocessing_in (rows_of (found_of matches.now)) (map string_bytes compiler.entry.now)) }
 {
     Ok(PpArgs {
-        files: read_files(alloc, matches)?,
+        files: read_files(alloc, matches, compiler)?,
         sources: values(alloc, matches, "SOURCE")?,
         without: given(matches, "without"),
         defines: given(matches, "defines"),
@@ -134,14 +156,20 @@ fn read_pp<'a>(alloc: Global, matches: &ArgMatches<'a>) -> Result<PpArgs<'a>, Al
     })
 }
 
-fn read_files<'a>(alloc: Global, matches: &ArgMatches<'a>) -> Result<FileList<'a>, AllocError>
-    ensures { IfOk result (λ f. seen_files f ≡ files_in (rows_of (found_of matches.now))) }
+fn read_files<'a>(
+    alloc: Global,
+    matches: &ArgMatches<'a>,
+    compiler: &'a [String],
+) -> Result<FileList<'a>, AllocError>
+    ensures { IfOk result (λ f. seen_files f ≡ files_in (rows_of (found_of matches.now)) (map string_bytes compiler.entry.now)) }
 {
     Ok(FileList {
         build: given(matches, "build"),
+        command: compiler,
         list: given(matches, "files"),
         is_null: is_given(matches, "null"),
         roots: values(alloc, matches, "root")?,
+        exclude: values(alloc, matches, "exclude")?,
         dirs: values(alloc, matches, "include")?,
         quoted: values(alloc, matches, "iquote")?,
         system: values(alloc, matches, "isystem")?,
@@ -152,11 +180,12 @@ fn read_files<'a>(alloc: Global, matches: &ArgMatches<'a>) -> Result<FileList<'a
 fn read_question<'a>(
     alloc: Global,
     matches: &ArgMatches<'a>,
+    compiler: &'a [String],
 ) -> Result<QuestionArgs<'a>, AllocError>
-    ensures { IfOk result (λ q. seen_question q ≡ question_in (rows_of (found_of matches.now))) }
+    ensures { IfOk result (λ q. seen_question q ≡ question_in (rows_of (found_of matches.now)) (map string_bytes compiler.entry.now)) }
 {
     Ok(QuestionArgs {
-        files: read_files(alloc, matches)?,
+        files: read_files(alloc, matches, compiler)?,
         source: given(matches, "SOURCE"),
         header: given(matches, "HEADER"),
         from: values(alloc, matches, "from")?,
@@ -170,35 +199,48 @@ fn read_question<'a>(
 }
 
 /// The same, where each source of the build, or each `.c` file of the project, is one if no word says which.
-fn read_who<'a>(alloc: Global, matches: &ArgMatches<'a>) -> Result<QuestionArgs<'a>, AllocError>
-    ensures { IfOk result (λ q. seen_question q ≡ who_in (rows_of (found_of matches.now))) }
+fn read_who<'a>(
+    alloc: Global,
+    matches: &ArgMatches<'a>,
+    compiler: &'a [String],
+) -> Result<QuestionArgs<'a>, AllocError>
+    ensures { IfOk result (λ q. seen_question q ≡ who_in (rows_of (found_of matches.now)) (map string_bytes compiler.entry.now)) }
 {
-    let mut question = read_question(alloc, matches)?;
+    let mut question = read_question(alloc, matches, compiler)?;
     if question.from.is_empty() {
-        let all = all_sources(question.files.build);
+        let all = all_sources(has_build(question.files.build, compiler));
         question.from.push(all)?;
     }
     Ok(question)
 }
 
-/// The same, where each source of the build, if a word names one, is one if no word says which.
-fn read_ends<'a>(alloc: Global, matches: &ArgMatches<'a>) -> Result<QuestionArgs<'a>, AllocError>
-    ensures { IfOk result (λ q. seen_question q ≡ ends_in (rows_of (found_of matches.now))) }
+/// The same, where each source of the build, if there is one, is one if no word says which.
+fn read_ends<'a>(
+    alloc: Global,
+    matches: &ArgMatches<'a>,
+    compiler: &'a [String],
+) -> Result<QuestionArgs<'a>, AllocError>
+    ensures { IfOk result (λ q. seen_question q ≡ ends_in (rows_of (found_of matches.now)) (map string_bytes compiler.entry.now)) }
 {
-    match (given(matches, "build"), given(matches, "SOURCE")) {
-        (Some(_), None) => read_who(alloc, matches),
-        _ => read_question(alloc, matches),
+    if has_build(given(matches, "build"), compiler) && given(matches, "SOURCE").is_none() {
+        read_who(alloc, matches, compiler)
+    } else {
+        read_question(alloc, matches, compiler)
     }
 }
 
-/// The glob of the sources where no word names them.
-fn all_sources(build: Option<&str>) -> &'static str
-    ensures { result.now ≡ meaning.all_sources (option_map (λ b. b.now) build.entry) }
+/// Whether there is a build: a word names one, or it is that of a compiler's command.
+fn has_build(build: Option<&str>, compiler: &[String]) -> bool
+    ensures { result ≡ meaning.has_build (option_map (λ b. b.now) build.entry) (map string_bytes compiler.now) }
 {
-    match build {
-        Some(_) => "**",
-        None => "**.c",
-    }
+    build.is_some() || !compiler.is_empty()
+}
+
+/// The glob of the sources where no word names them.
+fn all_sources(has_build: bool) -> &'static str
+    ensures { result.now ≡ meaning.all_sources has_build }
+{
+    if has_build { "**" } else { "**.c" }
 }
 
 fn read_rules<'a>(alloc: Global, matches: &ArgMatches<'a>) -> Result<RuleArgs<'a>, AllocError>

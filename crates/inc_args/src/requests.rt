@@ -50,12 +50,16 @@ pub enum Request<'a> {
 pub struct FileList<'a> {
     /// The compilation database of the build, or the folder of one.
     pub build: Option<&'a str>,
+    /// The command of a compiler that is the build, the name of the compiler first; no words where there is none.
+    pub command: &'a [String],
     /// The file that lists them; `-` is standard input.
     pub list: Option<&'a str>,
     /// Whether NUL ends each path of the list, and not a line feed.
     pub is_null: bool,
     /// The folders below which they are found.
     pub roots: Vec<&'a str>,
+    /// The globs of files that are left out.
+    pub exclude: Vec<&'a str>,
     /// The directories of one's own headers, in the order in which they are searched.
     pub dirs: Vec<&'a str>,
     /// Those for names between `"` alone, which are searched before them.

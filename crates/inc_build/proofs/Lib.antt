@@ -1,4 +1,5 @@
 pub mod BuildLemmas
+pub mod CommandBuilds
 pub mod CommandLemmas
 pub mod EntryLemmas
 pub mod Examples

@@ -1,5 +1,6 @@
 pub mod Builds
 pub mod Commands
+pub mod CompilerCommands
 pub mod CompilerWords
 pub mod Configurations
 pub mod Databases

@@ -1,11 +1,14 @@
 //! The sources of a build, and which include paths they are compiled with.
 ghost use Rattle.std.specs.Prelude.{◌≡◌, ◌++◌, [], ◌∷◌, ℕ, List, not, IfOk, OnOk, bytes_eq, get_or, length, map, option_map, position, slice_get};
+ghost use Rattle.inc_build.specs.CompilerCommands as command;
+ghost use Rattle.inc_build.specs.Configurations.{Row as AnyRow};
 ghost use Rattle.inc_build.specs.CompilerWords.{items as items_of};
 ghost use Rattle.inc_build.specs.Configurations.{configuration as configuration_of};
 ghost use Rattle.inc_build.specs.Builds as spec;
-ghost use Rattle.inc_build.specs.Views.{seen_build, seen_entry, seen_row, seen_rows, seen_uses};
+ghost use Rattle.inc_build.specs.Views.{seen_build, seen_entry, seen_item, seen_row, seen_rows, seen_uses};
 
-use crate::compiler_words::{Kind, items};
+use crate::compiler_commands::is_source;
+use crate::compiler_words::{Item, Kind, items};
 use crate::configurations::{Row, configuration};
 use crate::entries::Entry;
 use crate::paths::path_from;
@@ -48,6 +51,70 @@ impl Build {
             at += 1;
         }
         Ok(build)
+    }
+
+    /// The build of a command whose words ask for these items, and whose compiler is run in a directory: one entry compiles its sources. So no
+    /// source takes time for the words again.
+    pub fn of_command<'w>(
+        alloc: Global,
+        seed: u64,
+        directory: &[u8],
+        items: &[Item<'w>],
+    ) -> Result<Build, AllocError>
+        ensures { IfOk result (λ build. seen_build build ≡ command.command_build directory.now (map seen_item items.now)) }
+    {
+        let rows = configuration(alloc, directory, items)?;
+        let mut build = Build::with_rows(alloc, SeededState::new(seed), rows)?;
+        let mut at = 0;
+        while at < items.len() {
+            build.add_operand(alloc, directory, items[at])?;
+            at += 1;
+        }
+        Ok(build)
+    }
+
+    /// No sources, and one include path.
+    fn with_rows(alloc: Global, keys: SeededState, rows: Vec<Row>) -> Result<Build, AllocError>
+        ensures { IfOk result (λ build. seen_build build ≡ command.built (map seen_row rows.items) []) }
+    {
+        let mut build = Build::none(alloc, keys);
+        let text = text_of(alloc, &rows)?;
+        let (_, _) = number(alloc, &mut build.texts, &text)?;
+        build.configurations.push(rows)?;
+        Ok(build)
+    }
+
+    /// Adds the source that a word of a command is, if it is one and is not there.
+    fn add_operand<'w>(
+        &mut self,
+        alloc: Global,
+        directory: &[u8],
+        item: Item<'w>,
+    ) -> Result<(), AllocError>
+        ensures { (rows : List AnyRow) (sources : List (List ℕ)) → seen_build self.old ≡ command.built rows sources →
+            OnOk result (seen_build self.new ≡ command.built rows (command.source_with directory.now (seen_item item.entry) sources)) }
+    {
+        match item {
+            Item::Operand(word) if is_source(word) => {
+                let path = path_from(alloc, directory, word)?;
+                self.add_path(alloc, &path)
+            }
+            _ => Ok(()),
+        }
+    }
+
+    /// Adds the source of a command with this path, if it is not there.
+    fn add_path(&mut self, alloc: Global, path: &[u8]) -> Result<(), AllocError>
+        ensures { (rows : List AnyRow) (sources : List (List ℕ)) → seen_build self.old ≡ command.built rows sources →
+            OnOk result (seen_build self.new ≡ command.built rows (spec.with_name path.now sources)) }
+    {
+        let (_, is_new) = number(alloc, &mut self.sources, path)?;
+        if !is_new {
+            return Ok(());
+        }
+        let uses = only_uses(alloc)?;
+        self.uses.push(uses)?;
+        Ok(())
     }
 
     /// No sources.
@@ -152,6 +219,18 @@ fn rows_of<'v>(alloc: Global, directory: &[u8], entry: &Entry<'v>) -> Result<Vec
 {
     let items = items(alloc, &entry.words)?;
     configuration(alloc, directory, &items)
+}
+
+/// The only entry of a command, with its only include path.
+fn only_uses(alloc: Global) -> Result<Vec<Use>, AllocError>
+    ensures { IfOk result (λ uses. uses.items ≡ command.only_use ∷ []) }
+{
+    let mut uses = Vec::new(alloc);
+    uses.push(Use {
+        entry: 0,
+        configuration: 0,
+    })?;
+    Ok(uses)
 }
 
 /// The number of a text among others, and whether it is new there: then it is added.

@@ -3,6 +3,7 @@
 
 mod builds;
 mod commands;
+mod compiler_commands;
 mod compiler_words;
 mod configurations;
 mod databases;
@@ -12,6 +13,7 @@ mod paths;
 
 pub use builds::{Build, Use};
 pub use commands::{Word, shell_words};
+pub use compiler_commands::command_entry;
 pub use compiler_words::{Item, Kind, items};
 pub use configurations::{Row, configuration};
 pub use databases::{DatabaseFault, read_database, read_entries};

@@ -1,5 +1,5 @@
 -- The texts of certificates: what is read of one is what it was written of, and each text that is read so far goes on to a whole one.
-use Rattle.std.proofs.Common.{◌≡◌, ℕ, ◌+◌, ◌-◌, ◌<◌, ◌≤◌, length, Bool, true, List, [], ◌∷◌, ◌++◌, refl, sym, ap, ◌∙◌, subst, ◌&&◌, arith, zero-add}
+use Rattle.std.proofs.Common.{◌≡◌, ℕ, ◌+◌, ◌-◌, ◌<◌, ◌≤◌, length, map, Bool, true, List, [], ◌∷◌, ◌++◌, refl, sym, ap, ◌∙◌, subst, ◌&&◌, arith, zero-add}
 use Rattle.std.specs.Prelude.{nat_lt, nat_le, codes, flat_map}
 use Rattle.std.specs.List.{list_all}
 use Rattle.std.proofs.lemmas.Bool.{and_parts, and_from, le-leb, leb-true, lt-ltb, ltb-true}
@@ -11,9 +11,10 @@ use Rattle.inc_check.specs.declared.certificates.CountedMarks.{CountedMarks}
 use Rattle.inc_check.specs.declared.read_texts.Stage.{Stage}
 use Rattle.inc_check.specs.declared.read_texts.Stage.TheVariants.{Start, Cut, Chains, Chain}
 use Rattle.inc_check.specs.declared.line_parts.ChainHead.{ChainHead}
-use Rattle.inc_check.specs.Texts.{greatest_number, count_line, mark_line, mark_lines, chain_lines, cut_lines, chains_lines, certificate_lines, is_short_mark, is_small_list, is_small_chain, CertificateFormat, IsCertificateText}
-use Rattle.inc_check.specs.Reading.{State, start}
-use Rattle.inc_check.proofs.Formats.{AreClean, clean-append, IsShape}
+use Rattle.inc_check.specs.Texts.{greatest_number, count_line, mark_line, mark_lines, chain_lines, cut_lines, chains_lines, certificate_lines, is_short_mark, is_small_list, is_small_chain, AreClean}
+use Rattle.inc_check.specs.CertificateText.{CertificateFormat, IsCertificateText}
+use Rattle.inc_check.specs.Reading.{State, plain_line, start}
+use Rattle.inc_check.proofs.Formats.{clean-append, IsShape}
 use Rattle.inc_check.proofs.WordLemmas.{head_line, clean_count, clean_head}
 use Rattle.inc_check.proofs.MarksFormats.{all_push}
 use Rattle.inc_check.proofs.ShortMarks.{AreShort, clean_short}
@@ -66,17 +67,37 @@ clean_chains (k ∷ ks) v =
     let parts = and_parts (is_small_chain k) (list_all is_small_chain ks) v in
     clean-append (chain_lines k) (flat_map chain_lines ks) (clean_chain k (small_chain k parts.0)) (clean_chains ks parts.1)
 
-clean_certificate : (c : Certificate) → IsSmall c → AreClean (certificate_lines c)
+pub clean_certificate : (c : Certificate) → IsSmall c → AreClean (certificate_lines c)
 clean_certificate c v =
     let cut = small_list c.cut v.cut in
     clean-append (cut_lines c.cut) (chains_lines c.chains) (clean_count (codes "cut") (length c.cut) refl cut.1, clean_short c.cut cut.0)
     (clean_count (codes "chains") (length c.chains) refl (leb-true (length c.chains) greatest_number v.few), clean_chains c.chains v.chains)
 
-pub certificate_shape : IsShape certificate_lines IsSmall CertificateFormat
+-- a certificate, and the lines of a text of it
+pub record Written : Type 0 where
+  pub certificate : Certificate
+  pub lines : List (List ℕ)
+
+pub record IsWritten (w : Written) : Type 0 where
+  pub small : IsSmall w.certificate
+  pub clean : AreClean w.lines
+  pub same : map plain_line w.lines ≡ certificate_lines w.certificate
+
+abbrev pub written_lines : Written → List (List ℕ)
+written_lines w = w.lines
+
+pub certificate_shape : IsShape written_lines IsWritten CertificateFormat
 certificate_shape = record {
-  to = λ text f. let small : IsSmall f.0 = record { cut = f.1.cut; chains = f.1.chains; few = f.1.few } in (f.0, f.1.same, small);
-  from = λ c v. let is : IsCertificateText _ c = record { same = refl; cut = v.cut; chains = v.chains; few = v.few } in (c, is);
-  clean = clean_certificate;
+  to = λ text f.
+      let small : IsSmall f.0 = record { cut = f.1.cut; chains = f.1.chains; few = f.1.few } in
+      let w : Written = record { certificate = f.0; lines = f.1.lines } in
+      let is : IsWritten w = record { small = small; clean = f.1.clean; same = f.1.same } in
+      (w, f.1.whole, is);
+  from = λ w v.
+      let small = v.small in
+      let is : IsCertificateText _ w.certificate = record { lines = w.lines; whole = refl; clean = v.clean; same = v.same; cut = small.cut; chains = small.chains; few = small.few } in
+      (w.certificate, is);
+  clean = λ w v. v.clean;
 }
 
 ---- what is read so far

@@ -1,30 +1,32 @@
 -- How the lines of a certificate are read one after the other.
-use Rattle.std.proofs.Common.{◌≡◌, ℕ, suc, ◌+◌, ◌-◌, ◌<◌, ◌≤◌, length, Bool, true, false, List, [], ◌∷◌, ◌++◌, Option, Some, None, refl, sym, ap, ◌∙◌, subst, ◌&&◌, arith}
-use Rattle.std.specs.Prelude.{◌==◌, nat_lt, codes, flat_map, option_and_then, if◌then◌else◌}
+use Rattle.std.proofs.Common.{◌≡◌, ℕ, suc, ◌+◌, ◌-◌, ◌<◌, ◌≤◌, length, map, Bool, true, false, List, [], ◌∷◌, ◌++◌, Option, Some, None, refl, sym, ap, ◌∙◌, subst, ◌&&◌, arith}
+use Rattle.std.specs.Prelude.{◌==◌, nat_le, nat_lt, codes, flat_map, option_and_then, if◌then◌else◌}
 use Rattle.std.specs.List.{list_all}
 use Rattle.std.proofs.lemmas.Bool.{and_parts, le-leb, leb-true, lt-ltb, ltb-true, ltb-false, eqb-true}
 use Rattle.std.proofs.lemmas.List.{append-nil, append_assoc, length_push}
+use Rattle.inc_lookup.specs.declared.listings.TheConstants.{LONGEST_PATH}
 use Rattle.inc_graph.specs.Marks.{Mark}
 use Rattle.inc_check.specs.declared.certificates.Certificate.{Certificate}
 use Rattle.inc_check.specs.declared.certificates.CountedMarks.{CountedMarks}
 use Rattle.inc_check.specs.declared.read_texts.Stage.{Stage}
 use Rattle.inc_check.specs.declared.read_texts.Stage.TheVariants.{Start, Cut, Chains, Chain}
 use Rattle.inc_check.specs.declared.line_parts.ChainHead.{ChainHead}
-use Rattle.inc_check.specs.Texts.{greatest_number, count_line, mark_line, mark_lines, chain_lines, cut_lines, chains_lines, certificate_lines, is_short_mark, is_small_chain}
-use Rattle.inc_check.specs.Reading.{State, start, step, with_mark, with_cut, with_chains, with_chain, with_next, with_head, closed, closed_by, whole, whole_by, short_mark_in, number_behind, head_in}
+use Rattle.inc_check.specs.Texts.{greatest_number, count_line, mark_line, mark_lines, chain_lines, cut_lines, chains_lines, certificate_lines, is_short_mark, is_small_chain, is_small_mark}
+use Rattle.inc_check.specs.Reading.{State, start, step, with_mark, with_cut, with_chains, with_chain, with_next, with_head, closed, closed_by, whole, whole_by, plain_by, plain_line, short_mark_in, number_behind, head_in}
 use Rattle.inc_check.proofs.WordLemmas.{if_some, head_line, number_behind-word, number_behind-Some, head_in-line, head_in-Some}
 use Rattle.inc_check.proofs.ShortMarks.{AreShort, short_mark_in-line, short_mark_in-Some}
-use Rattle.inc_check.proofs.CertificateFormats.{IsSmall, IsSmallChain, small_list, small_chain, IsRead, IsReadBy, IsGoodHead, marked, chained, this_chain, this_small, closed_lines, read_mark, read_cut, read_chains, read_first, read_next, all-append}
+use Rattle.inc_check.proofs.CertificateFormats.{IsWritten, Written, IsSmall, IsSmallChain, small_list, small_chain, IsRead, IsReadBy, IsGoodHead, marked, chained, this_chain, this_small, closed_lines, read_mark, read_cut, read_chains, read_first, read_next, all-append}
+use Rattle.inc_check.proofs.PlainLines.{head_is, no_head, plain_head}
 
 ---- each line that fits is read
 
-mark_parts : (s t : State) (done : List (List ℕ)) (l : List ℕ) (o : Option Mark) → short_mark_in l ≡ o → with_mark s o ≡ Some t → 0 < s.marks_left → IsRead done s → IsRead (done ++ l ∷ []) t
+mark_parts : (s t : State) (done : List (List ℕ)) (l : List ℕ) (o : Option Mark) → short_mark_in l ≡ o → with_mark s o ≡ Some t → 0 < s.marks_left → IsRead done s → IsRead (done ++ plain_line l ∷ []) t
 unfolding marked
 mark_parts s t done l None is e left r = cc
 mark_parts s t done l (Some m) is e left r =
     let same : marked s m ≡ t = cc in
     let parts = short_mark_in-Some l m is in
-    subst (IsRead (done ++ l ∷ [])) same (read_mark s.stage s m done l parts.0 parts.1 left r)
+    subst (IsRead (done ++ plain_line l ∷ [])) same (read_mark s.stage s m done (plain_line l) parts.0 parts.1 left r)
 
 -- the state after the head of a chain
 next_parts : (s t : State) (l : List ℕ) (ks : List CountedMarks) → closed s ≡ ks → with_next s l ≡ Some t → (h : ChainHead) × IsGoodHead h l × (0 < s.chains_left) × (t ≡ chained s ks h)
@@ -73,12 +75,16 @@ head_read Chain s t done l is e none r =
     let parts = next_parts s t l (s.chains ++ this_chain s ∷ []) (closed_is s (s.stage) is) e in
     subst (IsRead (done ++ l ∷ [])) (sym parts.3) (stays (done ++ l ∷ []) s (s.chains ++ this_chain s ∷ []) parts.0 (read_next s parts.0 done l parts.1 parts.2 none r))
 
-pub step_read : (s t : State) (done : List (List ℕ)) (l : List ℕ) → IsRead done s → step s l ≡ Some t → IsRead (done ++ l ∷ []) t
+-- as they are printed
+pub step_read : (s t : State) (done : List (List ℕ)) (l : List ℕ) → IsRead done s → step s l ≡ Some t → IsRead (done ++ plain_line l ∷ []) t
 step_read s t done l r e = by_left (nat_lt 0 s.marks_left) refl e
   where
-    by_left : (b : Bool) → nat_lt 0 s.marks_left ≡ b → (if b then with_mark s (short_mark_in l) else with_head s.stage s l) ≡ Some t → IsRead (done ++ l ∷ []) t
+    by_left : (b : Bool) → nat_lt 0 s.marks_left ≡ b → (if b then with_mark s (short_mark_in l) else with_head s.stage s l) ≡ Some t → IsRead (done ++ plain_line l ∷ []) t
     by_left true is f = mark_parts s t done l (short_mark_in l) refl f (ltb-true 0 s.marks_left is) r
-    by_left false is f = let none = ltb-false 0 s.marks_left is in head_read s.stage s t done l refl f (omega arith) r
+    by_left false is f =
+        let none = ltb-false 0 s.marks_left is in
+        let head = head_read s.stage s t done l refl f (omega arith) r in
+        subst (λ (k : List ℕ). IsRead (done ++ k ∷ []) t) (sym (plain_head l (head_is s t l s.stage f))) head
 
 ---- what is read whole
 
@@ -284,27 +290,62 @@ complete c v =
       more.2,
     )
 
+---- lines that are not as they are printed
+
+step_plain : (s t : State) (l : List ℕ) → step s (plain_line l) ≡ Some t → step s l ≡ Some t
+step_plain s t l e = when (short_mark_in l) refl e
+  where
+    when : (o : Option Mark) → short_mark_in l ≡ o → step s (plain_by o l) ≡ Some t → step s l ≡ Some t
+    when None is f = f
+    when (Some m) is f = by_left (nat_lt 0 s.marks_left) f
+      where
+        short : is_short_mark m ≡ true
+        short = (short_mark_in-Some l m is).1
+
+        by_left : (b : Bool) → (if b then with_mark s (short_mark_in (mark_line m)) else with_head s.stage s (mark_line m)) ≡ Some t
+            → (if b then with_mark s (short_mark_in l) else with_head s.stage s l) ≡ Some t
+        by_left true g = ap (with_mark s) (is ∙ sym (short_mark_in-line m short)) ∙ g
+        by_left false g =
+            let head = head_is s t (mark_line m) s.stage g in
+            absurd (no_head m (and_parts (is_small_mark m) (nat_le (length m.path) LONGEST_PATH) short).0 head.first)
+
+run_plain : (s t : State) (ls : List (List ℕ)) → run s (map plain_line ls) ≡ Some t → run s ls ≡ Some t
+unfolding run
+run_plain s t [] e = e
+run_plain s t (l ∷ ls) e = by_step (step s (plain_line l)) refl e (λ u f. run_plain u t ls f)
+  where
+    by_step : (o : Option State) → step s (plain_line l) ≡ o → option_and_then (λ u. run u (map plain_line ls)) o ≡ Some t
+        → ((u : State) → run u (map plain_line ls) ≡ Some t → run u ls ≡ Some t) → option_and_then (λ u. run u ls) (step s l) ≡ Some t
+    by_step None is f more = cc
+    by_step (Some u) is f more = ap (λ (o : Option State). option_and_then (λ u. run u ls) o) (step_plain s u l is) ∙ more u f
+
+-- a certificate is read from the lines of any text of it
+complete_written : (w : Written) → IsWritten w → (t : State) × (run start w.lines ≡ Some t) × (whole t ≡ Some w.certificate)
+complete_written w v =
+    let all = complete w.certificate v.small in
+    (all.0, run_plain start all.0 w.lines (ap (run start) v.same ∙ all.1), all.2)
+
 ---- where an input breaks off
 
-pub no_next : (done : List (List ℕ)) (l : List ℕ) (s : State) → run start done ≡ Some s → step s l ≡ None → (c : Certificate) (ms : List (List ℕ)) → IsSmall c → certificate_lines c ≡ done ++ l ∷ ms → ⊥
+pub no_next : (done : List (List ℕ)) (l : List ℕ) (s : State) → run start done ≡ Some s → step s l ≡ None → (w : Written) (ms : List (List ℕ)) → IsWritten w → w.lines ≡ done ++ l ∷ ms → ⊥
 unfolding run
-no_next done l s ran none c ms v e =
-    let all = complete c v in
+no_next done l s ran none w ms v e =
+    let all = complete_written w v in
     let goes = run-append start s done (l ∷ ms) ran in
     let stops : run s (l ∷ ms) ≡ None = ap (λ o. option_and_then (λ t. run t ms) o) none in
-    let same : run start (certificate_lines c) ≡ None = ap (run start) e ∙ goes ∙ stops in
+    let same : run start w.lines ≡ None = ap (run start) e ∙ goes ∙ stops in
     let some = all.1 in cc
 
-pub no_end : (done : List (List ℕ)) (s : State) → run start done ≡ Some s → whole s ≡ None → (c : Certificate) → IsSmall c → certificate_lines c ≡ done → ⊥
-no_end done s ran none c v e =
-    let all = complete c v in
+pub no_end : (done : List (List ℕ)) (s : State) → run start done ≡ Some s → whole s ≡ None → (w : Written) → IsWritten w → w.lines ≡ done → ⊥
+no_end done s ran none w v e =
+    let all = complete_written w v in
     let some = all.1 in
     let is = all.2 in
-    let same : run start (certificate_lines c) ≡ Some s = ap (run start) e ∙ ran in
+    let same : run start w.lines ≡ Some s = ap (run start) e ∙ ran in
     let one : all.0 ≡ s = cc in
-    let found : whole s ≡ Some c = ap whole (sym one) ∙ is in cc
+    let found : whole s ≡ Some w.certificate = ap whole (sym one) ∙ is in cc
 
--- the text of a certificate is that of no other
+-- the lines of a certificate are those of no other
 pub lines_are_one : (c d : Certificate) → IsSmall c → IsSmall d → certificate_lines c ≡ certificate_lines d → c ≡ d
 lines_are_one c d v w e =
     let first = complete c v in

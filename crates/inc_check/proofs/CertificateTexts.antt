@@ -1,5 +1,5 @@
 -- What is read of a certificate goes on to a whole one, and where an input breaks off.
-use Rattle.std.proofs.Common.{◌≡◌, ℕ, zero, suc, ◌+◌, ◌<◌, ◌≤◌, length, replicate, take, drop, Bool, true, List, [], ◌∷◌, ◌++◌, Some, None, refl, sym, ap, ◌∙◌, subst, arith}
+use Rattle.std.proofs.Common.{◌≡◌, ℕ, zero, suc, ◌+◌, ◌<◌, ◌≤◌, length, map, replicate, take, drop, Bool, true, List, [], ◌∷◌, ◌++◌, Some, None, refl, sym, ap, ◌∙◌, subst, arith}
 use Rattle.std.specs.Prelude.{◌==◌, codes, flat_map, position}
 use Rattle.std.specs.List.{list_all}
 use Rattle.std.proofs.lemmas.Bool.{and_from, le-leb}
@@ -10,13 +10,15 @@ use Rattle.inc_check.specs.declared.certificates.Certificate.{Certificate}
 use Rattle.inc_check.specs.declared.certificates.CountedMarks.{CountedMarks}
 use Rattle.inc_check.specs.declared.read_texts.Stage.{Stage}
 use Rattle.inc_check.specs.declared.read_texts.Stage.TheVariants.{Start, Cut, Chains, Chain}
-use Rattle.inc_check.specs.Texts.{greatest_number, count_line, mark_line, mark_lines, chain_lines, cut_lines, chains_lines, certificate_lines, lines_text, is_short_mark, is_small_chain, CertificateFormat, IsCertificateText, IsMalformed}
-use Rattle.inc_check.specs.Reading.{State, start, step, whole}
-use Rattle.inc_check.proofs.Formats.{AreClean, clean-append, Goes, prefix_lines, malformed_line, malformed_end}
+use Rattle.inc_check.specs.Texts.{greatest_number, count_line, mark_line, mark_lines, chain_lines, cut_lines, chains_lines, certificate_lines, certificate_text, lines_text, is_short_mark, is_small_chain, IsMalformed, AreClean}
+use Rattle.inc_check.specs.CertificateText.{CertificateFormat, IsCertificateText}
+use Rattle.inc_check.specs.Reading.{State, plain_line, start, step, whole}
+use Rattle.inc_check.proofs.Formats.{clean-append, clean_rest, Goes, prefix_lines, malformed_line, malformed_end}
 use Rattle.inc_check.proofs.LineLemmas.{first_line, no_line, read_more}
 use Rattle.inc_check.proofs.WordLemmas.{head_line}
 use Rattle.inc_check.proofs.ShortMarks.{AreShort}
-use Rattle.inc_check.proofs.CertificateFormats.{IsSmall, IsSmallChain, list_small, chain_small, all-append, IsList, IsRead, IsReadBy, read_start, certificate_shape}
+use Rattle.inc_check.proofs.CertificateFormats.{IsWritten, Written, written_lines, clean_certificate, IsSmall, IsSmallChain, list_small, chain_small, all-append, IsList, IsRead, IsReadBy, read_start, certificate_shape}
+use Rattle.inc_check.proofs.PlainLines.{ArePlain, plain_certificate, plain_map, plain_rest}
 use Rattle.inc_check.proofs.CertificateRuns.{run, run-append, step_read, whole_read, no_next, no_end, lines_are_one}
 
 ---- each text that is read so far goes on
@@ -61,12 +63,12 @@ list_lines : (s : State) → mark_lines (whole_list s) ≡ mark_lines s.marks ++
 unfolding whole_list
 list_lines s = map-append mark_line s.marks (replicate s.marks_left some_mark)
 
-goes_on : (st : Stage) (s : State) (done : List (List ℕ)) → IsReadBy st done s → Goes certificate_lines IsSmall done
-goes_on Start s done r =
+goes_printed : (st : Stage) (s : State) (done : List (List ℕ)) → IsReadBy st done s → Goes certificate_lines IsSmall done
+goes_printed Start s done r =
     let c : Certificate = record { cut = []; chains = [] } in
     let v : IsSmall c = record { cut = refl; chains = refl; few = refl } in
     (c, certificate_lines c, v, ap (λ ls. ls ++ certificate_lines c) r.0)
-goes_on Cut s done r =
+goes_printed Cut s done r =
     let list = list_whole s r.1.list in
     let c : Certificate = record { cut = whole_list s; chains = [] } in
     let v : IsSmall c = record { cut = list_small (whole_list s) list.0 list.1; chains = refl; few = refl } in
@@ -80,7 +82,7 @@ goes_on Cut s done r =
           ∙ ap (λ ls. head ∷ ls) (append_assoc (mark_lines s.marks) (mark_lines (replicate s.marks_left some_mark)) (chains_lines []))
           ∙ ap (λ ls. ls ++ more) r.0,
     )
-goes_on Chains s done r =
+goes_printed Chains s done r =
     let rest : List CountedMarks = replicate s.chains_left some_chain in
     let size = length-replicate s.chains_left some_chain in
     let few = r.1.few in
@@ -93,7 +95,7 @@ goes_on Chains s done r =
           ∙ sym (append_assoc (cut_lines s.cut) (count_line (codes "chains") s.chains_left ∷ []) (flat_map chain_lines (replicate s.chains_left some_chain)))
           ∙ ap (λ ls. ls ++ flat_map chain_lines (replicate s.chains_left some_chain)) r.0,
     )
-goes_on Chain s done r =
+goes_printed Chain s done r =
     let list = list_whole s r.1.list in
     let this : CountedMarks = record { count = s.count; marks = whole_list s } in
     let rest : List CountedMarks = replicate s.chains_left some_chain in
@@ -130,6 +132,19 @@ goes_on Chain s done r =
     tail_size : (a b n : ℕ) → b ≡ n → a + suc b ≡ a + (1 + n)
     tail_size a b n e = omega arith
 
+-- from lines that are not as they are printed, by lines that are
+goes_on : (s : State) (done : List (List ℕ)) → AreClean done → IsRead (map plain_line done) s → Goes written_lines IsWritten done
+goes_on s done clean r =
+    let goes = goes_printed s.stage s (map plain_line done) r in
+    let rest_plain : ArePlain goes.1 = plain_rest (map plain_line done) goes.1 (subst ArePlain goes.3 (plain_certificate goes.0 goes.2)) in
+    let rest_clean : AreClean goes.1 = clean_rest (map plain_line done) goes.1 (subst AreClean goes.3 (clean_certificate goes.0 goes.2)) in
+    let w : Written = record { certificate = goes.0; lines = done ++ goes.1 } in
+    let v : IsWritten w = record {
+      small = goes.2;
+      clean = clean-append done goes.1 clean rest_clean;
+      same = map-append plain_line done goes.1 ∙ ap (λ ls. map plain_line done ++ ls) (plain_map goes.1 rest_plain) ∙ sym goes.3;
+    } in (w, goes.1, v, refl)
+
 ---- the loop over the lines
 
 -- these lines of the text lead to the state, and this is left
@@ -138,8 +153,8 @@ pub record HasRead (text : List ℕ) (s : State) (line : ℕ) (rest : List ℕ) 
   pub done : List (List ℕ)
   -- they lead to the state
   pub ran : run start done ≡ Some s
-  -- of which it holds what they say
-  pub read : IsRead done s
+  -- of which it holds what they say as they are printed
+  pub read : IsRead (map plain_line done) s
   -- no LF is within one of them
   pub clean : AreClean done
   -- the text is theirs, and what is left
@@ -164,7 +179,7 @@ read_line text s t line rest n h at e =
     let more : HasRead text t (line + 1) (drop (n + 1) rest) = record {
       done = h.done ++ take n rest ∷ [];
       ran = run-append start s h.done (take n rest ∷ []) h.ran ∙ run_one s t (take n rest) e;
-      read = step_read s t h.done (take n rest) h.read e;
+      read = subst (λ ls. IsRead ls t) (sym (map-append plain_line h.done (take n rest ∷ []))) (step_read s t (map plain_line h.done) (take n rest) h.read e);
       clean = clean-append h.done (take n rest ∷ []) h.clean (cut.1, tt);
       lines = read_more text h.done rest n h.lines cut.0;
       counted = omega arith;
@@ -175,9 +190,9 @@ pub bad_line : (text : List ℕ) (s : State) (line : ℕ) (rest : List ℕ) (n :
 bad_line text s line rest n h at none =
     let cut = first_line rest n at in
     subst (IsMalformed CertificateFormat text) (sym h.counted)
-    (malformed_line certificate_lines IsSmall CertificateFormat certificate_shape h.done (take n rest) (drop (n + 1) rest) text h.clean cut.1
-    (h.lines ∙ ap (λ t. lines_text h.done ++ t) cut.0) (goes_on s.stage s h.done h.read)
-    (λ c ms v e. no_next h.done (take n rest) s h.ran none c ms v e))
+    (malformed_line written_lines IsWritten CertificateFormat certificate_shape h.done (take n rest) (drop (n + 1) rest) text h.clean cut.1
+    (h.lines ∙ ap (λ t. lines_text h.done ++ t) cut.0) (goes_on s h.done h.clean h.read)
+    (λ w ms v e. no_next h.done (take n rest) s h.ran none w ms v e))
 
 -- the same, whatever comes after the text
 pub bad_line_more : (text more : List ℕ) (s : State) (line : ℕ) (rest : List ℕ) (n : ℕ) → HasRead text s line rest → position (λ b. b == 10) rest ≡ Some n → step s (take n rest) ≡ None → IsMalformed CertificateFormat (text ++ more) line
@@ -187,30 +202,33 @@ bad_line_more text more s line rest n h at none =
     ap (λ t. t ++ more) (h.lines ∙ ap (λ t. lines_text h.done ++ t) cut.0) ∙ append_assoc (lines_text h.done) (take n rest ++ 10 ∷ drop (n + 1) rest) more
     ∙ ap (λ t. lines_text h.done ++ t) (append_assoc (take n rest) (10 ∷ drop (n + 1) rest) more) in
     subst (IsMalformed CertificateFormat (text ++ more)) (sym h.counted)
-    (malformed_line certificate_lines IsSmall CertificateFormat certificate_shape h.done (take n rest) (drop (n + 1) rest ++ more) (text ++ more) h.clean cut.1
-    all (goes_on s.stage s h.done h.read)
-    (λ c ms v e. no_next h.done (take n rest) s h.ran none c ms v e))
+    (malformed_line written_lines IsWritten CertificateFormat certificate_shape h.done (take n rest) (drop (n + 1) rest ++ more) (text ++ more) h.clean cut.1
+    all (goes_on s h.done h.clean h.read)
+    (λ w ms v e. no_next h.done (take n rest) s h.ran none w ms v e))
 
 -- the end, where the last line is not ended or the certificate is not whole
 pub bad_end : (text : List ℕ) (s : State) (line : ℕ) (rest : List ℕ) → HasRead text s line rest → position (λ b. b == 10) rest ≡ None → (rest ≡ [] → whole s ≡ None) → IsMalformed CertificateFormat text line
 bad_end text s line rest h at none =
     subst (IsMalformed CertificateFormat text) (sym h.counted)
-    (malformed_end certificate_lines IsSmall CertificateFormat certificate_shape h.done rest text h.clean (no_line rest at) h.lines (goes_on s.stage s h.done h.read)
-    (λ empty c v e. no_end h.done s h.ran (none empty) c v e))
+    (malformed_end written_lines IsWritten CertificateFormat certificate_shape h.done rest text h.clean (no_line rest at) h.lines (goes_on s h.done h.clean h.read)
+    (λ empty w v e. no_end h.done s h.ran (none empty) w v e))
 
 -- the end of a whole certificate
 pub good_end : (text : List ℕ) (s : State) (line : ℕ) (rest : List ℕ) (c : Certificate) → HasRead text s line rest → rest ≡ [] → whole s ≡ Some c → IsCertificateText text c
 good_end text s line rest c h empty is =
-    let parts = whole_read s c h.done h.read is in
+    let parts = whole_read s c (map plain_line h.done) h.read is in
     let v = parts.1 in
     record {
-      same = ap lines_text parts.0 ∙ sym (h.lines ∙ ap (λ t. lines_text h.done ++ t) empty ∙ append-nil (lines_text h.done));
+      lines = h.done;
+      whole = sym (h.lines ∙ ap (λ t. lines_text h.done ++ t) empty ∙ append-nil (lines_text h.done));
+      clean = h.clean;
+      same = sym parts.0;
       cut = v.cut;
       chains = v.chains;
       few = v.few;
     }
 
----- the text of a certificate is that of no other
+---- a text is that of at most one certificate
 
 pub text_lines : (ks ls : List (List ℕ)) → AreClean ks → AreClean ls → lines_text ks ≡ lines_text ls → ks ≡ ls
 text_lines ks ls c d e =
@@ -226,4 +244,16 @@ pub text_is_one : (text : List ℕ) (c d : Certificate) → IsCertificateText te
 text_is_one text c d v w =
     let small : IsSmall c = record { cut = v.cut; chains = v.chains; few = v.few } in
     let small' : IsSmall d = record { cut = w.cut; chains = w.chains; few = w.few } in
-    lines_are_one c d small small' (text_lines (certificate_lines c) (certificate_lines d) (certificate_shape.clean c small) (certificate_shape.clean d small') (v.same ∙ sym w.same))
+    lines_are_one c d small small' (sym v.same ∙ ap (map plain_line) (text_lines v.lines w.lines v.clean w.clean (v.whole ∙ sym w.whole)) ∙ w.same)
+
+-- what is printed of a certificate is a text of it
+pub printed_is_text : (c : Certificate) → IsSmall c → IsCertificateText (certificate_text c) c
+printed_is_text c v = record {
+  lines = certificate_lines c;
+  whole = refl;
+  clean = clean_certificate c v;
+  same = plain_map (certificate_lines c) (plain_certificate c v);
+  cut = v.cut;
+  chains = v.chains;
+  few = v.few;
+}

@@ -5,9 +5,9 @@ use Rattle.std.specs.List.{list_all}
 use Rattle.std.proofs.lemmas.Bool.{and_parts, and_from}
 use Rattle.std.proofs.lemmas.List.{append-nil, map-append, length-map}
 use Rattle.inc_graph.specs.Marks.{Cost}
-use Rattle.inc_check.specs.Texts.{cost_line, cost_lines, is_small_cost, lines_text, CostsFormat, IsCostsText, IsMalformed}
+use Rattle.inc_check.specs.Texts.{cost_line, cost_lines, is_small_cost, lines_text, CostsFormat, IsCostsText, IsMalformed, AreClean}
 use Rattle.inc_check.specs.Reading.{cost_in}
-use Rattle.inc_check.proofs.Formats.{AreClean, IsShape, Goes, malformed_line, malformed_end}
+use Rattle.inc_check.proofs.Formats.{IsShape, Goes, malformed_line, malformed_end}
 use Rattle.inc_check.proofs.WordLemmas.{cost_in-line, cost_in-Some, clean_cost}
 use Rattle.inc_check.proofs.LineLemmas.{first_line, no_line, read_more}
 

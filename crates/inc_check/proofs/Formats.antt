@@ -7,7 +7,7 @@ use Rattle.std.proofs.lemmas.Grind.{flat_map-append}
 use Rattle.std.proofs.lemmas.List.{take-take, append-nil, append_assoc, take-append-drop, take-append-le, length-append}
 use Rattle.std.proofs.Math.Seq.{take-append_seam, take-append-add}
 use Rattle.std.proofs.lemmas.List.Sums.{sum_by-cons, sum_by-append}
-use Rattle.inc_check.specs.Texts.{line_text, lines_text, line_feeds, Format, Begins, IsMalformed, IsOfLongest}
+use Rattle.inc_check.specs.Texts.{line_text, lines_text, line_feeds, AreClean, Format, Begins, IsMalformed, IsOfLongest}
 
 ---- counting LF
 
@@ -29,14 +29,13 @@ count_none (b ∷ bs) e =
 
 ---- lines without LF
 
--- no line holds LF
-abbrev pub AreClean : List (List ℕ) → Type 0
-AreClean [] = Unit {0}
-AreClean (l ∷ ls) = (line_feeds l ≡ 0) × AreClean ls
-
 pub clean-append : (ls ms : List (List ℕ)) → AreClean ls → AreClean ms → AreClean (ls ++ ms)
 clean-append [] ms c d = d
 clean-append (l ∷ ls) ms c d = (c.0, clean-append ls ms c.1 d)
+
+pub clean_rest : (ks ms : List (List ℕ)) → AreClean (ks ++ ms) → AreClean ms
+clean_rest [] ms c = c
+clean_rest (k ∷ ks) ms c = clean_rest ks ms c.1
 
 -- the first byte of such a line is no LF, and the rest has none
 clean_tail : (b : ℕ) (l : List ℕ) → line_feeds (b ∷ l) ≡ 0 → (b ≡ 10 → ⊥) × (line_feeds l ≡ 0)
@@ -178,10 +177,6 @@ malformed_end {A} T V F shape done l input clean bare is goes bad = record {
     last (m ∷ ms) c e =
         let count = feeds_lines (m ∷ ms) c in
         let same = ap line_feeds e in absurd (omega arith)
-
-    clean_rest : (ks ms : List (List ℕ)) → AreClean (ks ++ ms) → AreClean ms
-    clean_rest [] ms c = c
-    clean_rest (k ∷ ks) ms c = clean_rest ks ms c.1
 
     never : (a : A) → V a → lines_text (T a) ≡ lines_text done ++ l → ⊥
     never a v e =

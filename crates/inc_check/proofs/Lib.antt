@@ -4,10 +4,12 @@ pub mod WordLemmas
 pub mod LineLemmas
 pub mod FrontLemmas
 pub mod DigitLemmas
+pub mod PlaceLemmas
 pub mod MarksFormats
-mod ShortMarks
+pub mod ShortMarks
 pub mod CostsFormats
 pub mod CertificateFormats
+pub mod PlainLines
 pub mod CertificateRuns
 pub mod CertificateTexts
 mod LongLines

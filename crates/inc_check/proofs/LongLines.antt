@@ -1,37 +1,23 @@
--- No line of a certificate has more than 4,107 bytes, so that one which has more breaks it off, wherever it ends.
+-- No line of a certificate has more than 8,192 bytes, so that one which has more breaks it off, wherever it ends.
 use Rattle.std.proofs.Common.{◌≡◌, ℕ, ◌+◌, ◌<◌, ◌≤◌, Bool, true, false, cond, List, [], ◌∷◌, ◌++◌, Option, Some, None, length, take, refl, sym, ap, ◌∙◌, arith}
-use Rattle.std.specs.Prelude.{◌==◌, nat_le, nat_lt, codes, decimal, position, if◌then◌else◌}
+use Rattle.std.specs.Prelude.{◌==◌, nat_lt, codes, decimal, position, if◌then◌else◌}
 use Rattle.std.specs.List.{position_from}
-use Rattle.std.proofs.lemmas.Bool.{and_parts, leb-true}
 use Rattle.std.proofs.lemmas.List.{length-append, length-take-le}
-use Rattle.inc_lookup.specs.declared.listings.TheConstants.{LONGEST_PATH}
 use Rattle.inc_lookup.proofs.ListingLemmas.{position-none-append}
-use Rattle.inc_graph.specs.Marks.{Mark, is_mark}
+use Rattle.inc_graph.specs.Marks.{Mark}
 use Rattle.inc_check.specs.declared.ahead.TheConstants.{LONGEST_LINE}
 use Rattle.inc_check.specs.declared.line_parts.ChainHead.{ChainHead}
 use Rattle.inc_check.specs.declared.read_texts.Stage.{Stage}
 use Rattle.inc_check.specs.declared.read_texts.Stage.TheVariants.{Start, Cut, Chains, Chain}
-use Rattle.inc_check.specs.Texts.{greatest_number, count_line, mark_line, times_text, is_small_mark, is_short_mark, CertificateFormat, IsMalformed}
+use Rattle.inc_check.specs.Texts.{greatest_number, count_line, times_text, IsMalformed}
+use Rattle.inc_check.specs.CertificateText.{CertificateFormat}
 use Rattle.inc_check.specs.Reading.{State, step, with_mark, with_cut, with_chains, with_chain, with_next, with_head, short_mark_in, number_behind, head_in}
-use Rattle.inc_check.proofs.Numerals.{length-numeral}
 use Rattle.inc_check.proofs.WordLemmas.{if_some, head_line, number_behind-Some, head_in-Some}
-use Rattle.inc_check.proofs.ShortMarks.{short_mark_in-Some}
+use Rattle.inc_check.proofs.ShortMarks.{length-decimal, short_mark_in-length}
 use Rattle.inc_check.proofs.LineLemmas.{first_line}
 use Rattle.inc_check.proofs.CertificateTexts.{HasRead, bad_line, bad_end}
 
 ---- how long lines are
-
-length-decimal : (n : ℕ) → n ≤ greatest_number → length (decimal n) ≤ 10
-length-decimal n low = (length-numeral (decimal n) n low refl).1
-
-mark_length : (m : Mark) → is_short_mark m ≡ true → length (mark_line m) ≤ 4107
-mark_length m short =
-    let parts = and_parts (is_small_mark m) (nat_le (length m.path) LONGEST_PATH) short in
-    let line = and_parts (is_mark m) (nat_le m.line greatest_number) parts.0 in
-    let digits = length-decimal m.line (leb-true m.line greatest_number line.1) in
-    let path = leb-true (length m.path) LONGEST_PATH parts.1 in
-    let all = length-append (decimal m.line) (32 ∷ m.path) in
-    omega arith
 
 times_length : (k : ℕ) → k ≤ greatest_number → length (times_text k) ≤ 17
 times_length k few = when (k == 1)
@@ -49,16 +35,13 @@ head_length n k low few =
 
 -- a line that fits is no longer than one that names a directive
 module _ (s t : State) (l : List ℕ) where
-  mark_short : (o : Option Mark) → short_mark_in l ≡ o → with_mark s o ≡ Some t → length l ≤ 4107
+  mark_short : (o : Option Mark) → short_mark_in l ≡ o → with_mark s o ≡ Some t → length l ≤ LONGEST_LINE
   mark_short None is e = cc
   mark_short (Some m) is e =
-      let parts = short_mark_in-Some l m is in
-      let low = mark_length m parts.1 in
-      let same = ap length parts.0 in
-      omega arith
+      short_mark_in-length l m is
 
   word_short : (word : List ℕ) → length word ≤ 7 → (o : Option ℕ) → number_behind word l ≡ o → (o ≡ None → ⊥)
-      → length l ≤ 4107
+      → length l ≤ LONGEST_LINE
   word_short word few None is some = absurd (some refl)
   word_short word few (Some n) is some =
       let parts = number_behind-Some word l n is in
@@ -67,7 +50,7 @@ module _ (s t : State) (l : List ℕ) where
       let same = ap length parts.0 in
       omega arith
 
-  chain_short : (o : Option ChainHead) → head_in l ≡ o → with_chain s o ≡ Some t → length l ≤ 4107
+  chain_short : (o : Option ChainHead) → head_in l ≡ o → with_chain s o ≡ Some t → length l ≤ LONGEST_LINE
   chain_short None is e = cc
   chain_short (Some h) is e =
       let parts = head_in-Some l h is in
@@ -75,10 +58,10 @@ module _ (s t : State) (l : List ℕ) where
       let same = ap length parts.0 in
       omega arith
 
-  next_short : with_next s l ≡ Some t → length l ≤ 4107
+  next_short : with_next s l ≡ Some t → length l ≤ LONGEST_LINE
   next_short e = chain_short (head_in l) refl (if_some (nat_lt 0 s.chains_left) (with_chain s (head_in l)) t e).1
 
-  head_short : (st : Stage) → with_head st s l ≡ Some t → length l ≤ 4107
+  head_short : (st : Stage) → with_head st s l ≡ Some t → length l ≤ LONGEST_LINE
   head_short Start e =
       let n : Option ℕ = number_behind (codes "cut ") l in
       word_short (codes "cut ") (omega arith) n refl (λ none. never n none e)
@@ -96,11 +79,11 @@ module _ (s t : State) (l : List ℕ) where
   head_short Chains e = next_short e
   head_short Chain e = next_short e
 
-  step_short : step s l ≡ Some t → length l ≤ 4107
+  step_short : step s l ≡ Some t → length l ≤ LONGEST_LINE
   step_short e = by_left (nat_lt 0 s.marks_left) e
     where
       by_left : (b : Bool) → (if b then with_mark s (short_mark_in l) else with_head s.stage s l) ≡ Some t
-          → length l ≤ 4107
+          → length l ≤ LONGEST_LINE
       by_left true f = mark_short (short_mark_in l) refl f
       by_left false f = head_short s.stage f
 

@@ -5,9 +5,9 @@ use Rattle.std.specs.List.{list_all}
 use Rattle.std.proofs.lemmas.Bool.{and_parts, and_from}
 use Rattle.std.proofs.lemmas.List.{append-nil, map-append, length-map}
 use Rattle.inc_graph.specs.Marks.{Mark}
-use Rattle.inc_check.specs.Texts.{mark_line, mark_lines, is_small_mark, lines_text, MarksFormat, IsMarksText, IsMalformed}
+use Rattle.inc_check.specs.Texts.{mark_line, mark_lines, is_small_mark, lines_text, MarksFormat, IsMarksText, IsMalformed, AreClean}
 use Rattle.inc_check.specs.Reading.{mark_in}
-use Rattle.inc_check.proofs.Formats.{AreClean, IsShape, Goes, malformed_line, malformed_end}
+use Rattle.inc_check.proofs.Formats.{IsShape, Goes, malformed_line, malformed_end}
 use Rattle.inc_check.proofs.WordLemmas.{mark_in-line, mark_in-Some, clean_mark}
 use Rattle.inc_check.proofs.LineLemmas.{first_line, no_line, read_more}
 

@@ -28,7 +28,7 @@ digit_is_not k b low bad = elim (cases_Bool (b == k)) [
   | inr e ↦ e
 ]
 
-none_of : (k : ℕ) → (digit_value k < 10 → ⊥) → (bs : List ℕ) → AllDigits 10 bs → list_any (λ b. b == k) bs ≡ false
+pub none_of : (k : ℕ) → (digit_value k < 10 → ⊥) → (bs : List ℕ) → AllDigits 10 bs → list_any (λ b. b == k) bs ≡ false
 none_of k bad [] all = refl
 none_of k bad (b ∷ bs) all = rw (digit_is_not k b all.0 bad) (none_of k bad bs all.1)
 
@@ -58,7 +58,7 @@ mark_in-line m small =
     let low = leb-true m.line greatest_number parts.1 in
     rw (blank_behind m.line m.path low, take-append_seam (decimal m.line) (32 ∷ m.path), drop_behind (decimal m.line) 32 m.path, number_in-decimal (decimal m.line) m.line low refl, parts.0) refl
 
-with_mark_parts : (o : Option ℕ) (path : List ℕ) (m : Mark) → mark_with o path ≡ Some m → (o ≡ Some m.line) × (path ≡ m.path) × (is_mark m ≡ true)
+pub with_mark_parts : (o : Option ℕ) (path : List ℕ) (m : Mark) → mark_with o path ≡ Some m → (o ≡ Some m.line) × (path ≡ m.path) × (is_mark m ≡ true)
 with_mark_parts None path m e = cc
 with_mark_parts (Some n) path m e = chosen (record { path = path; line = n }) m (is_mark (record { path = path; line = n })) refl e
   where

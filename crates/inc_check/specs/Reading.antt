@@ -1,11 +1,14 @@
 -- How marks, costs and certificates are read: line by line, each without the LF that ends it.
-use Rattle.std.specs.Prelude.{ℕ, ◌+◌, ◌-◌, ◌==◌, ◌&&◌, not, Bool, List, [], ◌∷◌, ◌++◌, Option, Some, None, if◌then◌else◌, length, take, drop, position, nat_le, nat_lt, bytes_eq, codes, decimal, option_map}
+use Rattle.std.specs.Prelude.{ℕ, ◌+◌, ◌-◌, ◌==◌, ◌&&◌, not, Bool, List, [], ◌∷◌, ◌++◌, Option, Some, None, if◌then◌else◌, length, take, drop, position, slice_index, nat_le, nat_lt, bytes_eq, codes, decimal, option_map}
+use Rattle.std.specs.Char.{is_ascii_digit}
+use Rattle.std.specs.List.{prefix_len}
 use Rattle.std.specs.Str.Parse.{digits_value}
-use Rattle.inc_text.specs.Ascii.{blank, line_feed}
+use Rattle.inc_text.specs.Ascii.{blank, colon, line_feed}
 use Rattle.inc_lookup.specs.declared.listings.TheConstants.{LONGEST_PATH}
 use Rattle.inc_graph.specs.Marks.{Cost, is_cost_amount}
 use Rattle.inc_graph.specs.Marks.{Mark, is_mark}
-use Rattle.inc_check.specs.Texts.{greatest_number}
+use Rattle.inc_check.specs.Texts.{greatest_number, mark_line}
+use Rattle.inc_check.specs.declared.ahead.TheConstants.{LONGEST_LINE}
 use Rattle.inc_check.specs.declared.certificates.Certificate.{Certificate}
 use Rattle.inc_check.specs.declared.certificates.CountedMarks.{CountedMarks}
 use Rattle.inc_check.specs.declared.line_parts.ChainHead.{ChainHead}
@@ -42,14 +45,64 @@ mark_at_blank line (Some k) = mark_with (number_in (take k line)) (drop (k + 1) 
 abbrev pub mark_in : List ℕ → Option Mark
 mark_in line = mark_at_blank line (position (λ b. b == blank) line)
 
+---- a directive as compilers print it
+
+-- the digits that a text begins with
+abbrev pub front_digits : List ℕ → List ℕ
+front_digits text = take (prefix_len is_ascii_digit text) text
+
+-- the text begins with `DIGITS:`
+abbrev pub begins_number : List ℕ → Bool
+begins_number text =
+    let n : ℕ = prefix_len is_ascii_digit text in nat_lt 0 n && (slice_index text n == colon)
+
+-- where the first colon is, after so many bytes, behind which a text is so
+abbrev pub colon_from : (is_behind : List ℕ → Bool) → (at : ℕ) → List ℕ → Option ℕ
+colon_from is_behind at [] = None
+colon_from is_behind at (b ∷ bs) = if b == colon && is_behind bs then Some at else colon_from is_behind (at + 1) bs
+
+-- where the first `:DIGITS:` is, after so many bytes
+abbrev pub place_from : (at : ℕ) → List ℕ → Option ℕ
+place_from at line = colon_from begins_number at line
+
+-- the path before that place, and the number there
+abbrev pub mark_at_place : List ℕ → Option ℕ → Option Mark
+mark_at_place line None = None
+mark_at_place line (Some n) = mark_with (number_in (front_digits (drop (n + 1) line))) (take n line)
+
+-- the mark of a line `PATH:LINE:`, whatever is behind it
+abbrev pub placed_mark : List ℕ → Option Mark
+placed_mark line = mark_at_place line (place_from 0 line)
+
+abbrev pub or_placed : Option Mark → List ℕ → Option Mark
+or_placed (Some m) line = Some m
+or_placed None line = placed_mark line
+
+-- the mark of a line, which is taken as `LINE PATH` where it is that
+abbrev pub listed_mark : List ℕ → Option Mark
+listed_mark line = or_placed (mark_in line) line
+
+---- a line of a certificate
+
 -- the mark, if a certificate may hold it
 abbrev pub short_mark : Option Mark → Option Mark
 short_mark None = None
 short_mark (Some m) = if nat_le (length m.path) LONGEST_PATH then Some m else None
 
--- the mark that a line of a certificate holds
+-- the mark that a line of a certificate holds, which is no longer than one that is read whole
 abbrev pub short_mark_in : List ℕ → Option Mark
-short_mark_in line = short_mark (mark_in line)
+short_mark_in line = if nat_le (length line) LONGEST_LINE then short_mark (listed_mark line) else None
+
+-- a line that holds this mark, as `LINE PATH`, or else the line
+abbrev pub plain_by : Option Mark → List ℕ → List ℕ
+plain_by None line = line
+plain_by (Some m) line = mark_line m
+
+-- a line of a certificate, as it is printed
+abbrev pub plain_line : List ℕ → List ℕ
+plain_line line = plain_by (short_mark_in line) line
+
+---- costs and heads
 
 abbrev pub cost_with : Option ℕ → Option Mark → Option Cost
 cost_with (Some amount) (Some mark) =

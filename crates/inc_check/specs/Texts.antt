@@ -106,13 +106,6 @@ pub record IsCostsText (text : List ℕ) (costs : List Cost) : Type 0 where
   pub same : costs_text costs ≡ text
   pub small : IsTrue (list_all is_small_cost costs)
 
--- the text is that of this certificate
-pub record IsCertificateText (text : List ℕ) (c : Certificate) : Type 0 where
-  pub same : certificate_text c ≡ text
-  pub cut : IsTrue (is_small_list c.cut)
-  pub chains : IsTrue (list_all is_small_chain c.chains)
-  pub few : IsTrue (nat_le (length c.chains) greatest_number)
-
 -- texts of a format
 abbrev pub Format : Type 1
 Format = List ℕ → Type 0
@@ -123,9 +116,6 @@ MarksFormat text = (ms : List Mark) × IsMarksText text ms
 abbrev pub CostsFormat : Format
 CostsFormat text = (costs : List Cost) × IsCostsText text costs
 
-abbrev pub CertificateFormat : Format
-CertificateFormat text = (c : Certificate) × IsCertificateText text c
-
 -- something can follow that makes it a text of the format
 abbrev pub Begins : Format → List ℕ → Type 0
 Begins F text = (rest : List ℕ) × F (text ++ rest)
@@ -133,6 +123,11 @@ Begins F text = (rest : List ℕ) × F (text ++ rest)
 -- how many LF a text has
 abbrev pub line_feeds : List ℕ → ℕ
 line_feeds text = count_by (λ b. b == line_feed) text
+
+-- no line holds LF
+abbrev pub AreClean : List (List ℕ) → Type 0
+AreClean [] = Unit {0}
+AreClean (l ∷ ls) = (line_feeds l ≡ 0) × AreClean ls
 
 -- the input is no text of the format, and this is the line where it breaks off: 1 and the most LF of a part of it, from its front,
 -- that begins a text of the format

@@ -14,8 +14,9 @@ use std::marker::Model;
 /// So many bytes are asked of a source at a time.
 const PIECE_LEN: usize = 65_536;
 
-/// The most bytes of a line of which the end is read. A line of a certificate has 4,107 at most: a number, a space, the path of a file.
-const LONGEST_LINE: usize = 8_192;
+/// The most bytes of a line of a certificate. One that is printed has 4,107 at most: a number, a space, the path of a file. One
+/// `PATH:LINE:` has the text of the directive behind that.
+pub(crate) const LONGEST_LINE: usize = 8_192;
 
 /// The bytes of a source that are read and not used yet.
 ///

@@ -7,7 +7,8 @@ ghost use Rattle.inc_check.specs.declared.certificates.Certificate.{Certificate}
 ghost use Rattle.inc_check.specs.declared.read_texts.Stage.TheVariants as stages;
 ghost use Rattle.inc_check.specs.Judging.{IsBegun, IsClosed, IsJudged, IsJudgedAfter, IsJudgedWhole, IsJudgeOf};
 ghost use Rattle.inc_check.specs.Reading as spec;
-ghost use Rattle.inc_check.specs.Texts.{IsCertificateText, IsMalformed, CertificateFormat, OfBytes};
+ghost use Rattle.inc_check.specs.CertificateText.{IsCertificateText, CertificateFormat};
+ghost use Rattle.inc_check.specs.Texts.{IsMalformed, OfBytes};
 ghost use Rattle.inc_text.specs.Ascii.{line_feed};
 
 use crate::ahead::Ahead;

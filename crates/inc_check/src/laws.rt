@@ -1,6 +1,6 @@
 //! What holds of texts and verdicts. The functions do nothing: what they ensure is what holds.
-ghost use Rattle.std.specs.Prelude.{◌≡◌, ◌<◌, ℕ, List, length};
-ghost use Rattle.std.specs.List.{All};
+ghost use Rattle.std.specs.Prelude.{◌≡◌, ◌<◌, ℕ, List, length, nat_le, IsTrue};
+ghost use Rattle.std.specs.List.{All, list_all};
 ghost use Rattle.inc_lookup.specs.Projects.{Layout};
 ghost use Rattle.inc_graph.specs.IncludeGraph.{Graph, IsSound};
 ghost use Rattle.inc_graph.specs.Marks.{Mark, Cost};
@@ -8,15 +8,22 @@ ghost use Rattle.inc_graph.specs.Cuts.{Fixed, Costs, Counted, IsCheapest, IsCost
 ghost use Rattle.inc_check.specs.declared.certificates.Certificate.{Certificate};
 ghost use Rattle.inc_check.specs.declared.verdicts.Verdict.TheVariants.{Yes};
 ghost use Rattle.inc_check.specs.Certificates.{certificate_of, chains_of, edge_numbers, marks_of, IsEachPathOnce, IsVerdict};
-ghost use Rattle.inc_check.specs.Texts.{IsMarksText, IsCostsText, IsCertificateText, MarksFormat, CostsFormat, CertificateFormat, IsOfLongest};
+ghost use Rattle.inc_check.specs.CertificateText.{IsCertificateText, CertificateFormat};
+ghost use Rattle.inc_check.specs.Texts.{IsMarksText, IsCostsText, MarksFormat, CostsFormat, IsOfLongest, certificate_text, greatest_number, is_small_chain, is_small_list};
 
-/// The text of a certificate is that of no other.
+/// A text is that of at most one certificate.
 pub fn certificate_text_is_one()
     ensures { (text : List ℕ) (c d : Certificate) →
         IsCertificateText text c → IsCertificateText text d → c ≡ d }
 {}
 
-/// So is the text of a list of marks, and that of a list of costs.
+/// The text that is written of a certificate is read as that certificate, if its numbers and paths are no greater than a text may hold.
+pub fn written_certificate_is_read()
+    ensures { (c : Certificate) → IsTrue (is_small_list c.cut) → IsTrue (list_all is_small_chain c.chains) →
+        IsTrue (nat_le (length c.chains) greatest_number) → IsCertificateText (certificate_text c) c }
+{}
+
+/// A text is that of at most one list of marks, and of at most one list of costs.
 pub fn list_text_is_one()
     ensures marks { (text : List ℕ) (a b : List Mark) → IsMarksText text a → IsMarksText text b → a ≡ b }
     ensures costs { (text : List ℕ) (a b : List Cost) → IsCostsText text a → IsCostsText text b → a ≡ b }

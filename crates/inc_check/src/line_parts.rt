@@ -3,10 +3,12 @@ ghost use Rattle.std.specs.Prelude.{◌≡◌, ◌≤◌, ◌==◌, Some, None, 
 ghost use Rattle.std.specs.Bool.{OnTrue};
 ghost use Rattle.std.specs.Str.Parse.{digits_value, AllDigits};
 ghost use Rattle.inc_check.specs.Texts.{greatest_number};
-ghost use Rattle.inc_check.specs.Reading.{number_in, mark_in, short_mark_in, cost_in, cost_with, number_behind, head_at_blank, head_of, head_in};
+ghost use Rattle.inc_check.specs.Reading.{number_in, mark_in, listed_mark, short_mark_in, cost_in, cost_with, number_behind, head_at_blank, head_of, head_in};
 ghost use Rattle.inc_text.specs.Ascii.{blank, line_feed};
 
+use crate::ahead::LONGEST_LINE;
 use crate::lines::blank_before;
+use crate::placed_marks::placed_mark;
 use inc_graph::{Cost, LentMark, Mark};
 use inc_lookup::LONGEST_PATH;
 use std::alloc::{AllocError, Global};
@@ -175,13 +177,31 @@ fn any_mark_in(text: &[u8], end: usize) -> Option<LentMark<'_>>
     LentMark::in_front(&text[at..], end - at, number)
 }
 
-/// The directive that a line of a certificate names. Its path is no longer than that of a file may be.
+/// The directive that a line of a list names: the first of a text, which ends here. A line that is `LINE PATH` is taken as that, whatever
+/// its path holds.
+#[inline(always)]
+fn listed_mark_in(text: &[u8], end: usize) -> Option<LentMark<'_>>
+    requires { position (λ b. b == line_feed) text.now ≡ Some end }
+    ensures { result ≡ listed_mark (take end text.now) }
+{
+    // Most lines are as they are printed.
+    if let Some(mark) = lent_mark_in(text, end) {
+        return Some(mark);
+    }
+    placed_mark(&text[..end])
+}
+
+/// The directive that a line of a certificate names. Its path is no longer than that of a file may be, and the line no longer than one
+/// of which the end is read, wherever the text comes from.
 #[inline(always)]
 pub(crate) fn short_mark_in(text: &[u8], end: usize) -> Option<LentMark<'_>>
     requires { position (λ b. b == line_feed) text.now ≡ Some end }
     ensures { result ≡ short_mark_in (take end text.now) }
 {
-    let Some(mark) = lent_mark_in(text, end) else {
+    if end > LONGEST_LINE {
+        return None;
+    }
+    let Some(mark) = listed_mark_in(text, end) else {
         return None;
     };
     if mark.path().len() > LONGEST_PATH {

@@ -1,6 +1,7 @@
 //! How texts are read.
 ghost use Rattle.std.specs.Prelude.{◌≡◌, ◌==◌, ℕ, List, [], Some, None, if◌then◌else◌, length, take, position, codes, IfOk, OnOk, IfErr};
-ghost use Rattle.inc_check.specs.Texts.{IsMarksText, IsCostsText, IsCertificateText, IsMalformed, MarksFormat, CostsFormat, CertificateFormat};
+ghost use Rattle.inc_check.specs.CertificateText.{IsCertificateText, CertificateFormat};
+ghost use Rattle.inc_check.specs.Texts.{IsMarksText, IsCostsText, IsMalformed, MarksFormat, CostsFormat};
 ghost use Rattle.inc_check.specs.Reading as spec;
 ghost use Rattle.inc_check.specs.declared.read_texts.CertFault.TheVariants as fault;
 ghost use Rattle.inc_text.specs.Ascii.{line_feed};
@@ -214,8 +215,8 @@ impl<'a> Reading<'a> {
     }
 }
 
-/// Reads a certificate, as [`write_certificate`](crate::write_certificate) writes it. The text of a certificate is that of no other. Its
-/// marks lend their paths from the text.
+/// Reads a certificate, as [`write_certificate`](crate::write_certificate) writes it, where a directive may also stand as `PATH:LINE:`.
+/// A text is that of at most one certificate. Its marks lend their paths from the text.
 pub fn read_certificate(alloc: Global, text: &[u8]) -> Result<Certificate<'_>, CertFault>
     ensures read { IfOk result (λ certificate. IsCertificateText text.now certificate) }
     ensures fault { IfErr result (λ f. (line : ℕ) → f ≡ fault.Malformed line →

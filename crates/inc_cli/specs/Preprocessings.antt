@@ -19,6 +19,7 @@ use Rattle.inc_report.specs.declared.outcome.RunFault.{RunFault}
 use Rattle.inc_args.specs.Meaning.{Preprocessing}
 use Rattle.inc_inputs.specs.Defines.{described_dirs}
 use Rattle.inc_inputs.specs.IncludePath.{include_path}
+use Rattle.inc_inputs.specs.GlobWords.{exclude_report}
 use Rattle.inc_inputs.specs.Inputs.{Gives, Puts, listed}
 use Rattle.inc_inputs.specs.declared.failures.Hindrance.{Hindrance}
 use Rattle.inc_cli.specs.Outputs.{Answer, Following, Output, ended}
@@ -117,9 +118,13 @@ pp_named gives language p =
     unless (are_twice (p.files.list ∷ p.without ∷ p.compiler ∷ p.defines ∷ [])) input_twice
     (then (found_if gives p.files (words_of_pp p)) (λ f. pp_with gives language p f))
 
+-- the words for files that are left out are globs
+abbrev pub pp_without : {S : Type 0} → Gives S → Language → Preprocessing → Step S PpAsked
+pp_without gives language p = unless_reported (exclude_report p.files) (pp_named gives language p)
+
 -- no two texts go to one file
 abbrev pub pp_apart : {S : Type 0} → Gives S → Language → Preprocessing → Step S PpAsked
-pp_apart gives language p = unless (are_one p.deps p.status) one_file (pp_named gives language p)
+pp_apart gives language p = unless (are_one p.deps p.status) one_file (pp_without gives language p)
 
 -- what is written beside the answer goes to files
 abbrev pub pp_bounded : {S : Type 0} → Gives S → Language → Preprocessing → Step S PpAsked

@@ -198,8 +198,8 @@ IsPromiseFrom gives o is_terminal m old out answer = Follows (λ language. IsPro
 -- that is set first
 abbrev pub IsAnswer : {S T : Type 0} → Begins S → Gives S → Puts S → Opens S T → (is_terminal : Bool) → Meaning → (old : S) → Output → Result Answer Report → Type 0
 IsAnswer {S} begins gives puts o is_terminal m old out answer =
-    (first : S) × begins old m.follows first × IsAnswerFrom gives puts o is_terminal m first out answer
+    (first : S) × begins old m.follows m.is_quiet first × IsAnswerFrom gives puts o is_terminal m first out answer
 
 abbrev pub IsPromise : {S T : Type 0} → Begins S → Gives S → Opens S T → (is_terminal : Bool) → Meaning → (old : S) → Output → Result Answer Report → Type 0
 IsPromise {S} begins gives o is_terminal m old out answer =
-    (first : S) × begins old m.follows first × IsPromiseFrom gives o is_terminal m first out answer
+    (first : S) × begins old m.follows m.is_quiet first × IsPromiseFrom gives o is_terminal m first out answer

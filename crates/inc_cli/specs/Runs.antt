@@ -24,7 +24,7 @@ use Rattle.inc_inputs.specs.BuildProjects.{Added, Found, found_question, none_ad
 use Rattle.inc_inputs.specs.BuildPlaces.{include_paths_of, read_with}
 use Rattle.inc_inputs.specs.BuildSteps.{found_if}
 use Rattle.inc_inputs.specs.HeaderNames.{header_notes}
-use Rattle.inc_inputs.specs.ExternalNames.{named_report}
+use Rattle.inc_inputs.specs.GlobWords.{named_report}
 use Rattle.inc_inputs.specs.RuleNotes.{rule_notes, strict_ends}
 use Rattle.inc_inputs.specs.declared.texts.Firsts.{Firsts}
 use Rattle.inc_cli.specs.Commands.{Command, Cost, Rules, baseline_of, certificate_of, has_headers, headers_of, rules_name}

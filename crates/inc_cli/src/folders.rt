@@ -1,4 +1,5 @@
 //! The C files below a folder of the host.
+use inc_inputs::Excluded;
 use inc_lookup::MOST_FILES;
 use inc_text::ReadFault;
 use std::alloc::{AllocError, Global};
@@ -19,23 +20,27 @@ struct Walk {
     files: Vec<String>,
 }
 
-/// The paths of the C files below a folder, sorted byte by byte, each ended by NUL: regular files whose names end so. Links are not
-/// followed, folders whose names begin with a dot are not entered, and names that are not UTF-8 are skipped. The walk ends once there
-/// are more files than a project may have. A folder that cannot be read is a fault.
-pub(crate) fn list_files(rt: &HostRuntime, folder: &str) -> Result<Vec<u8>, ReadFault> {
+/// The paths of the C files below a folder, sorted byte by byte, each ended by NUL: regular files whose names end so, but for those that are
+/// excluded. Links are not followed, folders whose names begin with a dot are not entered, and names that are not UTF-8 are skipped. The
+/// walk ends once there are more files than a project may have. A folder that cannot be read is a fault.
+pub(crate) fn list_files(
+    rt: &HostRuntime,
+    folder: &str,
+    excluded: &mut Excluded<'_>,
+) -> Result<Vec<u8>, ReadFault> {
     let mut walk = Walk {
         folders: Vec::new(rt.alloc()),
         files: Vec::new(rt.alloc()),
     };
     push_path(&mut walk.folders, rt.alloc(), folder)?;
-    walk.read_all(rt)?;
+    walk.read_all(rt, excluded)?;
     walk.files.sort()?;
     Ok(list_of(rt.alloc(), &walk.files)?)
 }
 
 impl Walk {
     /// Reads the folders that are left, and those below them.
-    fn read_all(&mut self, rt: &HostRuntime) -> Result<(), ReadFault> {
+    fn read_all(&mut self, rt: &HostRuntime, excluded: &mut Excluded<'_>) -> Result<(), ReadFault> {
         for _ in 0..u64::MAX {
             let Some(folder) = self.folders.pop() else {
                 return Ok(());
@@ -43,20 +48,25 @@ impl Walk {
             if self.files.len() > MOST_FILES {
                 return Ok(());
             }
-            self.read_folder(rt, &folder)?;
+            self.read_folder(rt, &folder, excluded)?;
         }
         Ok(())
     }
 
     /// Reads a folder.
-    fn read_folder(&mut self, rt: &HostRuntime, folder: &String) -> Result<(), ReadFault> {
+    fn read_folder(
+        &mut self,
+        rt: &HostRuntime,
+        folder: &String,
+        excluded: &mut Excluded<'_>,
+    ) -> Result<(), ReadFault> {
         let entries = match read_dir(rt, folder.as_str()) {
             Ok(entries) => entries,
             Err(error) => return Err(fault_of(&error)),
         };
         for entry in entries {
             match entry {
-                Ok(entry) => self.take_entry(rt, &entry)?,
+                Ok(entry) => self.take_entry(rt, &entry, excluded)?,
                 // Such a name could not be opened.
                 Err(error) if error.kind() == ErrorKind::InvalidFilename => {}
                 Err(error) => return Err(fault_of(&error)),
@@ -66,7 +76,12 @@ impl Walk {
     }
 
     /// Keeps a folder to be read, or a C file.
-    fn take_entry(&mut self, rt: &HostRuntime, entry: &DirEntry) -> Result<(), ReadFault> {
+    fn take_entry(
+        &mut self,
+        rt: &HostRuntime,
+        entry: &DirEntry,
+        excluded: &mut Excluded<'_>,
+    ) -> Result<(), ReadFault> {
         let kind = match entry.file_type() {
             Ok(kind) => kind,
             // It was there a moment ago.
@@ -80,7 +95,9 @@ impl Walk {
             push_path(&mut self.folders, rt.alloc(), path)?;
         } else if kind.is_file() && is_c(name) {
             let path = path.strip_prefix("./").unwrap_or(path);
-            push_path(&mut self.files, rt.alloc(), path)?;
+            if !excluded.has(path.as_bytes())? {
+                push_path(&mut self.files, rt.alloc(), path)?;
+            }
         }
         Ok(())
     }

@@ -4,10 +4,11 @@ ghost use Rattle.std.specs.Io.{ReadsAtMost, WritesAtMost};
 
 use crate::folders::list_files;
 use crate::listed_files::{ListedFiles, Unopened};
+use crate::progress::Progress;
 use crate::reports::{report, usage_status};
 use crate::runs::{Ended, run};
 use clap::Error as UsageError;
-use inc_inputs::{Failure, Hindrance, Inputs};
+use inc_inputs::{Excluded, Failure, Hindrance, Inputs};
 use inc_text::{ByteSink, ByteSource, DeviceFault, ReadFault, read_file};
 use std::alloc::{AllocError, Global};
 use std::cell::Cell;
@@ -22,15 +23,23 @@ pub struct HostInputs<'a> {
     rt: &'a HostRuntime,
     listed: ListedFiles,
     hindrance: &'a Cell<Hindrance>,
+    progress: &'a Progress,
 }
 
 impl<'a> HostInputs<'a> {
-    /// The files and the standard input of the process. `hindrance` holds what stood in the way of the file of a list that was read last.
-    pub fn new(rt: &'a HostRuntime, seed: u64, hindrance: &'a Cell<Hindrance>) -> HostInputs<'a> {
+    /// The files and the standard input of the process. `hindrance` holds what stood in the way of the file of a list that was read last,
+    /// and `progress` counts these files.
+    pub(crate) fn new(
+        rt: &'a HostRuntime,
+        seed: u64,
+        hindrance: &'a Cell<Hindrance>,
+        progress: &'a Progress,
+    ) -> HostInputs<'a> {
         HostInputs {
             rt,
             listed: ListedFiles::new(rt, seed),
             hindrance,
+            progress,
         }
     }
 }
@@ -40,18 +49,20 @@ impl<'a> Inputs for HostInputs<'a> {
 
     ghost opens = { λ inputs name stream. Unit {0} };
 
-    ghost begins = { λ old follows new. Unit {0} };
+    ghost begins = { λ old follows quiet new. Unit {0} };
 
     ghost puts = { λ old name text whole new. Unit {0} };
 
     type Stream = HostStream<'a>;
 
-    fn begin(&mut self, follows: bool) {
+    fn begin(&mut self, follows: bool, is_quiet: bool) {
         self.listed.follow(follows);
+        self.progress.begin(self.rt, is_quiet);
     }
 
     fn read_listed(&mut self, alloc: Global, path: &[u8]) -> Result<Vec<u8>, ReadFault> {
         self.hindrance.set(Hindrance::Other);
+        self.progress.count(self.rt);
         // A path that is not UTF-8 cannot be opened.
         let Ok(name) = str::from_utf8(path) else {
             return Err(ReadFault::Read);
@@ -82,9 +93,14 @@ impl<'a> Inputs for HostInputs<'a> {
         read_file(alloc, &mut HostReader::new(self.rt.reader()), 0)
     }
 
-    fn list_files(&mut self, _alloc: Global, folder: &str) -> Result<Vec<u8>, ReadFault> {
+    fn list_files(
+        &mut self,
+        alloc: Global,
+        folder: &str,
+        exclude: &[&str],
+    ) -> Result<Vec<u8>, ReadFault> {
         self.listed.trust(self.rt, folder)?;
-        list_files(self.rt, folder)
+        list_files(self.rt, folder, &mut Excluded::new(alloc, exclude)?)
     }
 
     fn read_whole(&mut self, alloc: Global, path: &[u8]) -> Result<Vec<u8>, ReadFault> {
@@ -298,10 +314,13 @@ impl Pipes {
 }
 
 /// Standard output or standard error. What is written to one of them is dropped once it is a pipe that nobody reads any more. Once standard
-/// output is one, as after `| head`, messages are dropped, too, so that the process ends without one.
+/// output is one, as after `| head`, messages are dropped, too, so that the process ends without one. The line on progress is taken away
+/// before anything is written.
 #[derive(Drop)]
 struct HostSink<'a, W> {
+    rt: &'a HostRuntime,
     writer: W,
+    progress: &'a Progress,
     /// Whether nobody reads it any more.
     gone: &'a Cell<bool>,
     /// Whether nobody reads standard output any more.
@@ -311,11 +330,13 @@ struct HostSink<'a, W> {
 
 impl<'a, W: Write> HostSink<'a, W> {
     /// Standard output.
-    fn output(writer: W, pipes: &'a Pipes) -> Self
+    fn output(rt: &'a HostRuntime, writer: W, pipes: &'a Pipes, progress: &'a Progress) -> Self
         ensures { result.failed ≡ false }
     {
         HostSink {
+            rt,
             writer,
+            progress,
             gone: &pipes.output,
             output_gone: &pipes.output,
             failed: false,
@@ -323,11 +344,13 @@ impl<'a, W: Write> HostSink<'a, W> {
     }
 
     /// Standard error.
-    fn messages(writer: W, pipes: &'a Pipes) -> Self
+    fn messages(rt: &'a HostRuntime, writer: W, pipes: &'a Pipes, progress: &'a Progress) -> Self
         ensures { result.failed ≡ false }
     {
         HostSink {
+            rt,
             writer,
+            progress,
             gone: &pipes.messages,
             output_gone: &pipes.output,
             failed: false,
@@ -347,6 +370,7 @@ impl<W: Write> ByteSink for HostSink<'_, W> {
         if self.gone.get() || self.output_gone.get() {
             return Ok(piece.len());
         }
+        self.progress.clear(self.rt);
         match write_again(&mut self.writer, piece) {
             Ok(count) if count > 0 || piece.is_empty() => return Ok(count),
             Err(error) if error.kind() == ErrorKind::BrokenPipe => self.gone.set(true),
@@ -364,26 +388,28 @@ impl<W: Write> ByteSink for HostSink<'_, W> {
 /// Runs the program for the words of the process, and gives the exit status.
 pub fn run_process(rt: &HostRuntime) -> u8 {
     let pipes = Pipes::new();
-    let messages = HostSink::messages(rt.stderr(), &pipes);
+    let progress = Progress::new();
+    let messages = HostSink::messages(rt, rt.stderr(), &pipes, &progress);
     match words_of(rt) {
-        Ok(words) => run_words(rt, &words, &pipes, messages),
+        Ok(words) => run_words(rt, &words, &pipes, &progress, messages),
         Err(failure) => report(&failure, messages).0,
     }
 }
 
 /// Runs the program for these words.
-fn run_words<E: ByteSink + Drop>(
-    rt: &HostRuntime,
+fn run_words<'a, E: ByteSink + Drop>(
+    rt: &'a HostRuntime,
     words: &[String],
-    pipes: &Pipes,
+    pipes: &'a Pipes,
+    progress: &'a Progress,
     messages: E,
 ) -> u8
     requires { E.has_failed messages ≡ false }
 {
-    let out = HostSink::output(io::writer(rt), pipes);
+    let out = HostSink::output(rt, io::writer(rt), pipes, progress);
     let seed = new_seed(rt);
     let hindrance = Cell::new(Hindrance::Other);
-    let inputs = HostInputs::new(rt, seed, &hindrance);
+    let inputs = HostInputs::new(rt, seed, &hindrance, progress);
     let is_terminal = rt.stdout().is_terminal();
     let (ended, _out, messages) = run(
         rt.alloc(),
@@ -395,6 +421,7 @@ fn run_words<E: ByteSink + Drop>(
         out,
         messages,
     );
+    progress.clear(rt);
     match ended {
         Ended::Status(status) => status,
         Ended::Usage(error) => print_usage(rt, &error, messages),

@@ -8,12 +8,13 @@ mod hosts;
 mod listed_files;
 mod notes;
 mod pp;
+mod progress;
 mod questions;
 mod reports;
 mod rules;
 mod runs;
 mod scan;
 
-pub use hosts::{HostInputs, HostStream, run_process};
+pub use hosts::run_process;
 pub use reports::{exit_of, report};
 pub use runs::{Ended, run};

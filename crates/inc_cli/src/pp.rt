@@ -3,7 +3,7 @@ ghost use Rattle.std.specs.Prelude.{◌≡◌, ◌≢◌, ◌++◌, ℕ, Err, Li
 ghost use Rattle.inc_args.specs.Views.{seen_pp};
 ghost use Rattle.inc_pp.specs.Settings.{bounded_settings, found_in_settings, limited_settings, marked_settings, usual_settings};
 ghost use Rattle.inc_cli.specs.Outputs.{IsRun};
-ghost use Rattle.inc_cli.specs.Preprocessings.{IsPreprocessed, PrintsEach, all_words, bound_of, is_no_bound, missing_of, pp_apart, pp_asked, pp_bounded, pp_found, pp_limited, pp_named, pp_of, searched, with_texts, writes_beside, writes_texts};
+ghost use Rattle.inc_cli.specs.Preprocessings.{IsPreprocessed, PrintsEach, all_words, bound_of, is_no_bound, missing_of, pp_apart, pp_asked, pp_bounded, pp_found, pp_limited, pp_named, pp_of, pp_without, searched, with_texts, writes_beside, writes_texts};
 ghost use Rattle.inc_inputs.specs.Reports.{out_of_memory};
 ghost use Rattle.inc_inputs.specs.BuildProjects.{with_macros};
 ghost use Rattle.inc_inputs.specs.Steps.{Comes, next_of};
@@ -17,8 +17,9 @@ use inc_args::PpArgs;
 use inc_check::number_in;
 use inc_inputs::{
     BuildProject, Failure, Inputs, ListedFiles, MacroWord, PpTexts, are_no_files, are_one,
-    are_twice, bytes_of, find_preprocessing, include_path, list_paths, named_project, path_end_in,
-    read_pp_texts, read_pp_texts_beside, with_macros, with_questions, write_if,
+    are_twice, bytes_of, exclude_failure, find_preprocessing, include_path, list_paths,
+    named_project, path_end_in, read_pp_texts, read_pp_texts_beside, with_macros, with_questions,
+    write_if,
 };
 use inc_lookup::{NamedDir, NamedPath, Project};
 use inc_pp::{Missing, Settings};
@@ -96,10 +97,28 @@ fn preprocess_apart<I: Inputs, O: ByteSink>(
     if are_one(args.deps, args.status) {
         return (Err(Failure::OneFile), out);
     }
-    preprocess_named(setup, args, inputs, out)
+    preprocess_without(setup, args, inputs, out)
 }
 
 /// The same where what is to be written goes to files of its own.
+fn preprocess_without<I: Inputs, O: ByteSink>(
+    setup: &Setup<'_>,
+    args: &PpArgs<'_>,
+    inputs: I,
+    out: O,
+) -> (Result<Answer, Failure>, O)
+    requires { O.has_failed out ≡ false }
+    ensures { seen_end result.0 ≢ Err out_of_memory →
+        IsRun (pp_without I.gives setup.now.language (seen_pp args.now)) (IsPreprocessed I.gives I.puts (seen_pp args.now)) inputs
+        (output_of (O.written out) (O.written result.1) (O.has_failed result.1)) (seen_end result.0) }
+{
+    match exclude_failure(setup.alloc, &args.files) {
+        Some(failure) => (Err(failure), out),
+        None => preprocess_named(setup, args, inputs, out),
+    }
+}
+
+/// The same where the words for files that are left out are globs.
 fn preprocess_named<I: Inputs, O: ByteSink>(
     setup: &Setup<'_>,
     args: &PpArgs<'_>,

@@ -170,7 +170,7 @@ fn answer<I: Inputs, O: ByteSink>(
         (output_of (O.written out) (O.written result.1) (O.has_failed result.1)) (seen_end result.0) }
 {
     let mut inputs = inputs;
-    inputs.begin(args.follows);
+    inputs.begin(args.follows, args.is_quiet);
     answer_from(alloc, seed, args, is_terminal, inputs, hindrance, out)
 }
 

@@ -10,7 +10,7 @@ use Rattle.inc_lookup.specs.Projects.{Layout, found_as, path_at}
 use Rattle.inc_globs.specs.Globs.{Piece, fits}
 use Rattle.inc_graph.specs.FileSets.{AreFlags}
 use Rattle.inc_graph.proofs.Members.{flags_more}
-use Rattle.inc_inputs.specs.Ends.{Paths, after, apart, before, is_path_of, named_files, word_paths, words_paths}
+use Rattle.inc_inputs.specs.Ends.{Paths, after, apart, before, is_path_of, joined_paths, named_files, word_paths}
 use Rattle.inc_inputs.specs.Reports.{Report}
 use Rattle.inc_inputs.specs.declared.sides.Side.{Side}
 
@@ -22,7 +22,7 @@ before_both ps qs (Err r) = refl
 
 module _ {X : Type 0} (f : X → List ℕ) (layout : Layout) (side : Side) (xs : List X) where
   abbrev pub rest : ℕ → Paths
-  rest i = words_paths layout side (drop i (map f xs))
+  rest i = joined_paths layout side (drop i (map f xs))
 
   module _ (i : ℕ) (d : X) (low : i < length xs) where
     short : i < length (map f xs)
@@ -30,7 +30,7 @@ module _ {X : Type 0} (f : X → List ℕ) (layout : Layout) (side : Side) (xs :
 
     next : rest i ≡ after (word_paths layout side (f (get_or xs i d))) (rest (i + 1))
     next =
-        ap (words_paths layout side) (drop_more (map f xs) i [] short)
+        ap (joined_paths layout side) (drop_more (map f xs) i [] short)
         ∙ ap (λ (w : List ℕ). after (word_paths layout side w) (rest (i + 1))) (get_or-map f xs i d [] low)
 
     pub word_more : (done more : List (List ℕ)) (all : Paths) → word_paths layout side (f (get_or xs i d)) ≡ Ok more → before done (rest i) ≡ all
@@ -45,7 +45,7 @@ module _ {X : Type 0} (f : X → List ℕ) (layout : Layout) (side : Side) (xs :
   words_end i done all end so_far =
       let last : i ≡ length (map f xs) = end ∙ sym (length-map xs f) in
       ap (λ (ps : List (List ℕ)). Ok ps) (sym (append-nil done))
-      ∙ ap (λ (ws : List (List ℕ)). before done (words_paths layout side ws)) (sym (ap (λ (k : ℕ). drop k (map f xs)) last ∙ none_left (map f xs)))
+      ∙ ap (λ (ws : List (List ℕ)). before done (joined_paths layout side ws)) (sym (ap (λ (k : ℕ). drop k (map f xs)) last ∙ none_left (map f xs)))
       ∙ so_far
     where
       none_left : (ws : List (List ℕ)) → drop (length ws) ws ≡ []

@@ -338,13 +338,13 @@ put_none list ks i none = elim (slice_get_cases ks i).1 [
 ---- the list of the files below a folder
 
 module _ {S : Type 0} (gives : Gives S) where
-  pub text_list : (root folder : List ℕ) (old : S) (x : Result (List ℕ) Report) (new : S) → folder ≡ root → IsUtf8 folder
-      → reads_as gives folder (FilesBelow folder) old x new → root_list gives root old x new
-  text_list root folder old x new same utf8 reads =
-      subst (λ (b : Bool). folder_list gives root b old x new) (sym (is_utf8-from_IsUtf8 root (subst IsUtf8 same utf8)))
-      (subst (λ (f : List ℕ). reads_as gives f (FilesBelow f) old x new) same reads)
+  pub text_list : (exclude : List (List ℕ)) (root folder : List ℕ) (old : S) (x : Result (List ℕ) Report) (new : S) → folder ≡ root → IsUtf8 folder
+      → reads_as gives folder (FilesBelow folder exclude) old x new → root_list gives exclude root old x new
+  text_list exclude root folder old x new same utf8 reads =
+      subst (λ (b : Bool). folder_list gives exclude root b old x new) (sym (is_utf8-from_IsUtf8 root (subst IsUtf8 same utf8)))
+      (subst (λ (f : List ℕ). reads_as gives f (FilesBelow f exclude) old x new) same reads)
 
-  pub no_text : (root folder : List ℕ) (old : S) → folder ≡ root → (IsUtf8 folder → ⊥) → root_list gives root old (Err not_utf8) old
-  no_text root folder old same other =
-      subst (λ (b : Bool). folder_list gives root b old (Err not_utf8) old)
+  pub no_text : (exclude : List (List ℕ)) (root folder : List ℕ) (old : S) → folder ≡ root → (IsUtf8 folder → ⊥) → root_list gives exclude root old (Err not_utf8) old
+  no_text exclude root folder old same other =
+      subst (λ (b : Bool). folder_list gives exclude root b old (Err not_utf8) old)
       (sym (false_from_ne_true (is_utf8 root) (λ is. other (subst IsUtf8 (sym same) (IsUtf8-from_is_utf8 root is))))) (refl, refl)

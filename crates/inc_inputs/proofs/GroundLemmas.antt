@@ -1,6 +1,6 @@
 -- The deepest folder that several are in, and databases.
-use Rattle.std.proofs.Common.{◌≡◌, ◌≢◌, ℕ, ◌+◌, ◌<◌, Option, List, [], ◌∷◌, ◌++◌, Some, None, Err, drop, length, inl, inr, refl, sym, ap, ◌∙◌, map, slice_get, get_or, arith}
-use Rattle.std.specs.Prelude.{IsUtf8, is_some, unwrap_or}
+use Rattle.std.proofs.Common.{◌≡◌, ◌≢◌, ℕ, ◌+◌, ◌<◌, true, false, Option, List, [], ◌∷◌, ◌++◌, Some, None, Ok, Err, drop, length, inl, inr, refl, sym, ap, ap₂, subst, ◌∙◌, map, slice_get, get_or, arith}
+use Rattle.std.specs.Prelude.{◌==◌, IsUtf8, is_some, unwrap_or}
 use Rattle.std.specs.Str.{is_utf8}
 use Rattle.std.proofs.lemmas.Bool.{cases_Bool, true≢false}
 use Rattle.std.proofs.lemmas.List.{drop_all, drop_more}
@@ -8,13 +8,19 @@ use Rattle.std.proofs.lemmas.Option.{slice_get-get_or, slice_get_cases, slice_ge
 use Rattle.std.proofs.lemmas.Str.{IsUtf8-from_is_utf8, is_utf8-from_IsUtf8}
 use Rattle.serde_json.specs.Data.{Data}
 use Rattle.serde_json.specs.Read.{read as read_json}
+use Rattle.inc_args.specs.Meaning.{FileWords}
+use Rattle.inc_build.specs.Builds.{Build}
+use Rattle.inc_build.specs.CompilerCommands.{command_build, command_entry}
+use Rattle.inc_build.specs.CompilerWords.{items}
 use Rattle.inc_build.specs.Configurations.{Row}
+use Rattle.inc_build.specs.Entries.{Entry}
+use Rattle.inc_build.specs.Paths.{path_from}
 use Rattle.inc_build.specs.declared.databases.DatabaseFault.{DatabaseFault}
 use Rattle.inc_build.specs.declared.databases.DatabaseFault.TheVariants.{NoMemory}
 use Rattle.inc_inputs.specs.BuildPaths.{common, common_of, folder_of}
-use Rattle.inc_inputs.specs.BuildProjects.{IsDatabase, json_of, own_paths, own_rows}
-use Rattle.inc_inputs.specs.BuildReports.{database_report}
-use Rattle.inc_inputs.specs.Reports.{Report, out_of_memory}
+use Rattle.inc_inputs.specs.BuildProjects.{Ground, IsDatabase, command_ground, ground_by_root, json_of, own_paths, own_rows}
+use Rattle.inc_inputs.specs.BuildReports.{command_name, database_report}
+use Rattle.inc_inputs.specs.Reports.{Report, no_command_source, out_of_memory}
 
 -- by some folders, and then by more of them
 pub common_more : (folder : List ℕ) (fs gs : List (List ℕ)) → common_of (common_of folder fs) gs ≡ common_of folder (fs ++ gs)
@@ -59,3 +65,21 @@ pub is_none : (name text : List ℕ) (fault : DatabaseFault) (r : Report) → r 
 is_none name text fault r not report none =
     let is = report not in
     (json_none text (none (λ e. not (is ∙ ap (database_report name) e))), fault, is)
+
+---- a compiler's command
+
+pub command_none : (here : List ℕ) (files : FileWords) (e : Entry) (b : Build) → e ≡ command_entry files.command → b ≡ command_build here (items e.words)
+    → (length b.sources == 0) ≡ true → command_ground here files ≡ Err no_command_source
+command_none here files e b entry build none =
+    let same : b ≡ command_build here (items files.command) = build ∙ ap (λ (x : Entry). command_build here (items x.words)) entry in
+    let is : (length (command_build here (items files.command)).sources == 0) ≡ true = subst (λ (x : Build). (length x.sources == 0) ≡ true) same none in
+    rw is refl
+
+pub command_some : (here : List ℕ) (files : FileWords) (e : Entry) (b : Build) (g : Ground) → e ≡ command_entry files.command → b ≡ command_build here (items e.words)
+    → (length b.sources == 0) ≡ false → g ≡ ground_by_root here command_name files here (path_from here []) (e ∷ []) b → command_ground here files ≡ Ok g
+command_some here files e b g entry build some made =
+    let same : b ≡ command_build here (items files.command) = build ∙ ap (λ (x : Entry). command_build here (items x.words)) entry in
+    let is : (length (command_build here (items files.command)).sources == 0) ≡ false = subst (λ (x : Build). (length x.sources == 0) ≡ false) same some in
+    let whole : g ≡ ground_by_root here command_name files here (path_from here []) (command_entry files.command ∷ []) (command_build here (items files.command)) =
+    made ∙ ap₂ (λ (x : Entry) (y : Build). ground_by_root here command_name files here (path_from here []) (x ∷ []) y) entry same in
+    rw (is, whole) refl

@@ -18,8 +18,9 @@ pub mod NamedParts
 pub mod NamedSteps
 pub mod NameReports
 pub mod NoteLemmas
+pub mod OnceLaws
+pub mod OnceLemmas
 pub mod PathLemmas
-pub mod PlaceLemmas
 pub mod PlaceMarks
 pub mod PrintedMarks
 pub mod ProjectLemmas

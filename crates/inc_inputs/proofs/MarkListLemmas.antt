@@ -4,8 +4,8 @@ use Rattle.std.specs.Prelude.{◌==◌, codes, position}
 use Rattle.std.specs.List.{slice_split}
 use Rattle.std.proofs.lemmas.List.{append_assoc, append-nil, take_rest, drop-drop, length-drop}
 use Rattle.inc_graph.specs.Marks.{Mark}
-use Rattle.inc_check.specs.Reading.{number_behind}
-use Rattle.inc_inputs.specs.MarkLists.{but_last, cut_or_all, first_line, first_marks, first_of, line_marks, lines_of, listed_mark, marks_from, marks_in, with_marks}
+use Rattle.inc_check.specs.Reading.{listed_mark, number_behind}
+use Rattle.inc_inputs.specs.MarkLists.{but_last, cut_or_all, first_line, first_marks, first_of, line_marks, lines_of, marks_from, marks_in, with_marks}
 use Rattle.inc_inputs.proofs.ListLemmas.{split_at, split_none, pieces_left}
 
 abbrev pub ends : ℕ → Bool

@@ -1,9 +1,9 @@
 -- Names that a build cannot leave undefined, one more at a time.
-use Rattle.std.proofs.Common.{◌≡◌, codes, ℕ, ◌+◌, ◌<◌, List, [], ◌∷◌, Option, Some, None, length, drop, get_or, map, refl, sym, ap, ◌∙◌, arith}
+use Rattle.std.proofs.Common.{◌≡◌, ℕ, ◌+◌, ◌<◌, List, [], ◌∷◌, Option, Some, None, length, drop, get_or, map, refl, sym, ap, ◌∙◌, arith}
 use Rattle.std.proofs.lemmas.List.{drop_more, get_or-map, length-map}
 use Rattle.inc_text.specs.declared.languages.Language.{Language}
 use Rattle.inc_globs.specs.Globs.{Piece, pieces}
-use Rattle.inc_inputs.specs.ExternalNames.{external_report}
+use Rattle.inc_inputs.specs.GlobWords.{globs_report}
 use Rattle.inc_inputs.specs.Reports.{Report, bad_glob}
 use Rattle.inc_inputs.specs.UndefinedNames.{name_report, names_report}
 
@@ -32,25 +32,25 @@ module _ {X : Type 0} (f : X → List ℕ) (language : Language) (xs : List X) w
       none_left [] = refl
       none_left (w ∷ ws) = none_left ws
 
----- words for headers of another project
+---- words that are globs
 
-module _ {X : Type 0} (f : X → List ℕ) (xs : List X) where
+module _ {X : Type 0} (option : List ℕ) (f : X → List ℕ) (xs : List X) where
   -- what is reported of the words from one on
-  abbrev pub external_left : ℕ → Option Report
-  external_left i = external_report (drop i (map f xs))
+  abbrev pub globs_left : ℕ → Option Report
+  globs_left i = globs_report option (drop i (map f xs))
 
   module _ (i : ℕ) (d : X) (low : i < length xs) where
-    next_word : external_left i ≡ elim (pieces (f (get_or xs i d))) [ Some ps ↦ external_left (i + 1) | None ↦ Some (bad_glob (codes "--external") (f (get_or xs i d))) ]
+    next_word : globs_left i ≡ elim (pieces (f (get_or xs i d))) [ Some ps ↦ globs_left (i + 1) | None ↦ Some (bad_glob option (f (get_or xs i d))) ]
     next_word =
-        ap external_report (drop_more (map f xs) i [] (omega (arith, low, length-map xs f)))
-        ∙ ap (λ (w : List ℕ). elim (pieces w) as (λ _. Option Report) [ Some ps ↦ external_left (i + 1) | None ↦ Some (bad_glob (codes "--external") w) ]) (get_or-map f xs i d [] low)
+        ap (globs_report option) (drop_more (map f xs) i [] (omega (arith, low, length-map xs f)))
+        ∙ ap (λ (w : List ℕ). elim (pieces w) as (λ _. Option Report) [ Some ps ↦ globs_left (i + 1) | None ↦ Some (bad_glob option w) ]) (get_or-map f xs i d [] low)
 
-    pub word_passed : (ps : List Piece) (all : Option Report) → pieces (f (get_or xs i d)) ≡ Some ps → external_left i ≡ all → external_left (i + 1) ≡ all
+    pub word_passed : (ps : List Piece) (all : Option Report) → pieces (f (get_or xs i d)) ≡ Some ps → globs_left i ≡ all → globs_left (i + 1) ≡ all
     word_passed ps all is so_far =
-        ap (λ (o : Option (List Piece)). elim o as (λ _. Option Report) [ Some qs ↦ external_left (i + 1) | None ↦ Some (bad_glob (codes "--external") (f (get_or xs i d))) ]) (sym is)
+        ap (λ (o : Option (List Piece)). elim o as (λ _. Option Report) [ Some qs ↦ globs_left (i + 1) | None ↦ Some (bad_glob option (f (get_or xs i d))) ]) (sym is)
         ∙ sym next_word ∙ so_far
 
-    pub word_found : (all : Option Report) → pieces (f (get_or xs i d)) ≡ None → external_left i ≡ all → all ≡ Some (bad_glob (codes "--external") (f (get_or xs i d)))
+    pub word_found : (all : Option Report) → pieces (f (get_or xs i d)) ≡ None → globs_left i ≡ all → all ≡ Some (bad_glob option (f (get_or xs i d)))
     word_found all is so_far =
         sym so_far ∙ next_word
-        ∙ ap (λ (o : Option (List Piece)). elim o as (λ _. Option Report) [ Some qs ↦ external_left (i + 1) | None ↦ Some (bad_glob (codes "--external") (f (get_or xs i d))) ]) is
+        ∙ ap (λ (o : Option (List Piece)). elim o as (λ _. Option Report) [ Some qs ↦ globs_left (i + 1) | None ↦ Some (bad_glob option (f (get_or xs i d))) ]) is

@@ -1,23 +1,25 @@
 -- The texts of marks and of certificates, as lists of directives.
-use Rattle.std.proofs.Common.{◌≡◌, ℕ, ◌+◌, ◌<◌, ◌≤◌, Bool, true, false, List, [], ◌∷◌, ◌++◌, Option, Some, None, Ok, length, get_or, inl, inr, refl, sym, ap, ◌∙◌, arith}
-use Rattle.std.specs.Prelude.{◌==◌, codes, decimal, if◌then◌else◌, nat_le}
+use Rattle.std.proofs.Common.{◌≡◌, ℕ, ◌+◌, ◌<◌, ◌≤◌, Bool, true, false, List, [], ◌∷◌, ◌++◌, Option, Some, None, Ok, length, map, get_or, inl, inr, refl, sym, ap, ◌∙◌, arith}
+use Rattle.std.specs.Prelude.{◌==◌, codes, decimal, if◌then◌else◌}
 use Rattle.std.specs.List.{All, list_all, slice_split}
-use Rattle.std.proofs.lemmas.Bool.{and_from, and_parts, cases_Bool, leb-true}
+use Rattle.std.proofs.lemmas.Bool.{and_parts, cases_Bool, leb-true}
 use Rattle.std.proofs.lemmas.List.{append_assoc}
 use Rattle.std.proofs.lemmas.List.Elements.{All-cons, All-nil}
 use Rattle.std.proofs.lemmas.List.Splits.{slice_split_at}
 use Rattle.std.proofs.lemmas.Str.Parse.{digit_at}
-use Rattle.inc_lookup.specs.declared.listings.TheConstants.{LONGEST_PATH}
 use Rattle.inc_graph.specs.Marks.{Mark, is_mark}
-use Rattle.inc_check.specs.Reading.{number_behind}
-use Rattle.inc_check.specs.Texts.{certificate_lines, chains_lines, count_line, cut_lines, greatest_number, is_short_mark, is_small_mark, line_feeds, lines_text, mark_line, mark_lines, whole_lines, IsCertificateText, IsMarksText}
+use Rattle.inc_check.specs.Reading.{listed_mark, number_behind, or_placed, plain_line}
+use Rattle.inc_check.specs.CertificateText.{IsCertificateText}
+use Rattle.inc_check.specs.Texts.{AreClean, chains_lines, count_line, cut_lines, greatest_number, is_short_mark, is_small_mark, line_feeds, lines_text, mark_line, mark_lines, whole_lines, IsMarksText}
 use Rattle.inc_check.specs.declared.certificates.Certificate.{Certificate}
-use Rattle.inc_check.proofs.CertificateFormats.{IsSmall, certificate_shape, small_list}
-use Rattle.inc_check.proofs.Formats.{AreClean, feeds_cons}
+use Rattle.inc_check.proofs.CertificateFormats.{small_list}
+use Rattle.inc_check.proofs.Formats.{feeds_cons}
 use Rattle.inc_check.proofs.MarksFormats.{AreSmall, clean_marks}
+use Rattle.inc_check.proofs.PlainLines.{cut_head, head_is_plain, plain_mark}
+use Rattle.inc_check.proofs.ShortMarks.{AreShort, short_is_listed}
 use Rattle.inc_check.proofs.Numerals.{all_digits, length-numeral}
 use Rattle.inc_check.proofs.WordLemmas.{mark_in-line, number_behind-Some, number_behind-word}
-use Rattle.inc_inputs.specs.MarkLists.{but_last, cut_or_all, first_marks, line_marks, lines_of, listed_mark, listed_marks, marks_from, marks_in, or_placed, with_marks}
+use Rattle.inc_inputs.specs.MarkLists.{but_last, cut_or_all, first_marks, line_marks, lines_of, listed_marks, marks_from, marks_in, with_marks}
 use Rattle.inc_inputs.proofs.ListLemmas.{pieces_left}
 use Rattle.inc_inputs.proofs.MarkListLemmas.{ends, lines_more}
 
@@ -54,13 +56,6 @@ all_listed (m ∷ ms) small line =
     ap (λ (o : Option Mark). line_marks line o (marks_from (line + 1) (mark_lines ms))) (mark_listed m parts.0)
     ∙ ap (with_marks (m ∷ [])) (all_listed ms parts.1 (line + 1))
 
-first_listed : (ms : List Mark) → AreSmall ms → (line : ℕ) (more : List (List ℕ)) → first_marks (length ms) line (mark_lines ms ++ more) ≡ Ok ms
-first_listed [] small line more = refl
-first_listed (m ∷ ms) small line more =
-    let parts = and_parts (is_small_mark m) (list_all is_small_mark ms) small in
-    ap (λ (o : Option Mark). line_marks line o (first_marks (length ms) (line + 1) (mark_lines ms ++ more))) (mark_listed m parts.0)
-    ∙ ap (with_marks (m ∷ [])) (first_listed ms parts.1 (line + 1) more)
-
 ---- the first line of a text of marks
 
 front_of : (xs ys : List ℕ) → 0 < length xs → get_or (xs ++ ys) 0 0 ≡ get_or xs 0 0
@@ -94,21 +89,29 @@ marks_listed text ms is =
 
 ---- certificates
 
-cut_in : (ms : List Mark) (more : List (List ℕ)) → AreSmall ms → length ms ≤ greatest_number → marks_in (cut_lines ms ++ more) ≡ Ok ms
-cut_in ms more small few =
-    ap (λ (o : Option ℕ). cut_or_all o (count_line (codes "cut") (length ms)) (mark_lines ms ++ more)) (number_behind-word (codes "cut ") (length ms) few)
-    ∙ first_listed ms small 2 more
-
-short_small : (ms : List Mark) → list_all is_short_mark ms ≡ true → AreSmall ms
-short_small [] short = refl
-short_small (m ∷ ms) short =
+first_listed : (ms : List Mark) (ls more : List (List ℕ)) (line : ℕ) → AreShort ms → map plain_line ls ≡ mark_lines ms ++ more → first_marks (length ms) line ls ≡ Ok ms
+first_listed [] ls more line short e = refl
+first_listed (m ∷ ms) [] more line short e = cc
+first_listed (m ∷ ms) (l ∷ ls) more line short e =
     let parts = and_parts (is_short_mark m) (list_all is_short_mark ms) short in
-    let small = and_parts (is_small_mark m) (nat_le (length m.path) LONGEST_PATH) parts.0 in
-    and_from (is_small_mark m) (list_all is_small_mark ms) small.0 (short_small ms parts.1)
+    let here : plain_line l ≡ mark_line m = cc in
+    let rest : map plain_line ls ≡ mark_lines ms ++ more = cc in
+    let listed : listed_mark l ≡ Some m = short_is_listed l m (plain_mark l m parts.0 here) in
+    ap (λ (o : Option Mark). line_marks line o (first_marks (length ms) (line + 1) ls)) listed
+    ∙ ap (with_marks (m ∷ [])) (first_listed ms ls more (line + 1) parts.1 rest)
+
+cut_in : (ms : List Mark) (ls more : List (List ℕ)) → AreShort ms → length ms ≤ greatest_number → map plain_line ls ≡ cut_lines ms ++ more → marks_in ls ≡ Ok ms
+cut_in ms [] more short few e = cc
+cut_in ms (l ∷ ls) more short few e =
+    let first : plain_line l ≡ count_line (codes "cut") (length ms) = cc in
+    let rest : map plain_line ls ≡ mark_lines ms ++ more = cc in
+    let same : l ≡ count_line (codes "cut") (length ms) = head_is_plain l (count_line (codes "cut") (length ms)) (cut_head (length ms) few) first in
+    ap (λ (k : List ℕ). cut_or_all (number_behind (codes "cut ") k) l ls) same
+    ∙ ap (λ (o : Option ℕ). cut_or_all o l ls) (number_behind-word (codes "cut ") (length ms) few)
+    ∙ first_listed ms ls more 2 short rest
 
 pub certificate_listed : (text : List ℕ) (c : Certificate) → IsCertificateText (whole_lines text) c → listed_marks text ≡ Ok c.cut
 certificate_listed text c is =
-    let small : IsSmall c = record { cut = is.cut; chains = is.chains; few = is.few } in
     let cut = small_list c.cut is.cut in
-    ap (λ (t : List ℕ). marks_in (lines_of t)) (sym is.same) ∙ ap marks_in (lines_back (certificate_lines c) (certificate_shape.clean c small))
-    ∙ cut_in c.cut (chains_lines c.chains) (short_small c.cut cut.0) cut.1
+    ap (λ (t : List ℕ). marks_in (lines_of t)) (sym is.whole) ∙ ap marks_in (lines_back is.lines is.clean)
+    ∙ cut_in c.cut is.lines (chains_lines c.chains) cut.0 cut.1 is.same

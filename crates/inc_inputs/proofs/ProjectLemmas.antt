@@ -1,10 +1,11 @@
 -- Directories of a project, one more at a time.
-use Rattle.std.proofs.Common.{◌≡◌, ℕ, Bool, ◌+◌, ◌<◌, Option, List, [], ◌∷◌, ◌++◌, codes, length, drop, get_or, map, refl, sym, ap, ◌∙◌}
+use Rattle.std.proofs.Common.{◌≡◌, ℕ, Bool, false, ◌&&◌, ◌+◌, ◌<◌, Option, Some, None, List, [], ◌∷◌, ◌++◌, if◌then◌else◌, codes, length, drop, get_or, map, refl, sym, ap, ◌∙◌}
 use Rattle.std.proofs.lemmas.List.{drop_more}
 use Rattle.inc_build.specs.declared.compiler_words.Kind.{Kind}
 use Rattle.inc_inputs.specs.BuildNotes.{Kept, none, with_lines}
 use Rattle.inc_args.specs.Meaning.{FileWords, Question}
-use Rattle.inc_inputs.specs.BuildProjects.{Added, Chosen, Dirs, Found, Ground, added_by, all_dirs, all_empty, compiled_of, empty_lines, found_files, found_of_uses, found_question, header_form, in_place, known_with, macros_of, nul_ended, once, other_dirs, path_empty, rows_at, unless_named, used_paths}
+use Rattle.inc_inputs.specs.BuildProjects.{Added, Chosen, Dirs, Found, Ground, added_by, all_dirs, all_empty, are_dirs_utf8, are_ends_utf8, compiled_of, empty_lines, found_files, found_of_uses, found_question, header_form, in_place, known_with, macros_of, nul_ended, once, other_dirs, path_empty, rows_at, unless_named, used_paths, words_fault}
+use Rattle.inc_inputs.specs.Reports.{Report, not_utf8}
 use Rattle.inc_inputs.proofs.NoteLemmas.{with_lines-append}
 
 -- the notes of one more include path
@@ -54,3 +55,9 @@ pub question_made : (f : Found) (q : Question) (files : FileWords) (source heade
     → from ≡ unless_named q.source f.sources → to ≡ unless_named q.header f.headers → without ≡ q.without → drops ≡ q.drop → external ≡ q.external → undefined ≡ q.undefined → strict ≡ q.is_strict
     → (let p : Question = record { files = files; source = source; header = header; from = from; to = to; without = without; drop = drops; is_strict = strict; external = external; undefined = undefined } in p) ≡ found_question f q
 question_made f q files source header without from to drops external undefined strict a b c d e g h i j k = rw (a, b, c, d, e, g, h, i, j, k) refl
+
+-- a word for a source or a header that is no text is reported, whatever the directories are
+pub ends_told : (f : Found) → are_ends_utf8 f ≡ false → words_fault f ≡ Some not_utf8
+ends_told f is =
+    let none : Option Report = None in
+    ap (λ (b : Bool). if b && are_dirs_utf8 f then none else Some not_utf8) is

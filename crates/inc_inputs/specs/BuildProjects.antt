@@ -1,11 +1,12 @@
--- The project that a question with `-p BUILD` is about: what is read for it, and the words that stand in place of those of the question. Nothing
--- that is proved of an answer rests on a build: with these words the question is one without `-p`.
+-- The project that a question with `-p BUILD`, or with a compiler's command after `--`, is about: what is read for it, and the words that stand in place
+-- of those of the question. Nothing that is proved of an answer rests on a build: with these words the question is one without it.
 use Rattle.std.specs.Prelude.{◌≡◌, ℕ, suc, ◌-◌, ◌==◌, ◌&&◌, ◌||◌, not, Bool, true, false, List, [], ◌∷◌, ◌++◌, Option, Some, None, Result, Ok, Err, if◌then◌else◌, bytes_eq, codes, drop, filter, filter_map, find, flat_map, get_or, is_none, is_some, length, map, nat_le, nat_lt, position, take}
 use Rattle.std.specs.List.{list_all, list_any, prefix_len, range_with_len}
 use Rattle.std.specs.Str.{is_utf8}
 use Rattle.serde_json.specs.Data.{Data}
 use Rattle.serde_json.specs.Read.{read as read_json}
 use Rattle.inc_build.specs.Builds.{Build, build, is_named, with_name}
+use Rattle.inc_build.specs.CompilerCommands.{command_build, command_entry}
 use Rattle.inc_build.specs.CompilerWords.{Item, Given, Listed, Told, items}
 use Rattle.inc_build.specs.Configurations.{Row, is_kind}
 use Rattle.inc_build.specs.Databases.{entries}
@@ -19,8 +20,8 @@ use Rattle.inc_globs.specs.Globs.{Piece, fits, is_glob, pieces}
 use Rattle.inc_lookup.specs.declared.listings.TheConstants.{LONGEST_PATH}
 use Rattle.inc_args.specs.Meaning.{FileWords, Preprocessing, Question}
 use Rattle.inc_inputs.specs.BuildPaths.{below, common_of, folder_of, form, form_of, is_within}
-use Rattle.inc_inputs.specs.BuildReports.{absent_notes, database_report, empty_line, no_entries, option_front, other_macros, other_paths, skipped_line, some_lines, unsupported}
-use Rattle.inc_inputs.specs.Reports.{Report, bad_glob, fits_none, not_utf8, shown}
+use Rattle.inc_inputs.specs.BuildReports.{absent_notes, command_name, database_report, empty_line, no_entries, option_front, other_macros, other_paths, skipped_line, some_lines, unsupported}
+use Rattle.inc_inputs.specs.Reports.{Report, bad_glob, fits_none, no_command_source, not_utf8, shown}
 
 ---- the database
 
@@ -83,24 +84,24 @@ pub record Ground : Type 0 where
   pub root : List ℕ
   pub is_relative : Bool
 
-abbrev pub ground : (here name : List ℕ) → FileWords → (base : List ℕ) → List Entry → (root : List ℕ) → Ground
-ground here name files base es root = record {
+abbrev pub ground : (here name : List ℕ) → FileWords → Build → List Entry → (root : List ℕ) → Ground
+ground here name files b es root = record {
   here = here;
   name = name;
   entries = es;
-  build = build base es;
+  build = b;
   root = root;
   is_relative = are_relative here files root;
 }
 
 -- the deepest folder is found from this one on, which is the directory of an entry
-abbrev pub ground_by_root : (here name : List ℕ) → FileWords → (base folder : List ℕ) → List Entry → Ground
-ground_by_root here name files base folder es =
-    ground here name files base es (common_of folder (own_folders (build base es) base es))
+abbrev pub ground_by_root : (here name : List ℕ) → FileWords → (base folder : List ℕ) → List Entry → Build → Ground
+ground_by_root here name files base folder es b = ground here name files b es (common_of folder (own_folders b base es))
 
 abbrev pub ground_by_base : (here name : List ℕ) → FileWords → (base : List ℕ) → List Entry → Result Ground Report
 ground_by_base here name files base [] = Err (no_entries name)
-ground_by_base here name files base (e ∷ es) = Ok (ground_by_root here name files base (path_from base e.directory) (e ∷ es))
+ground_by_base here name files base (e ∷ es) =
+    Ok (ground_by_root here name files base (path_from base e.directory) (e ∷ es) (build base (e ∷ es)))
 
 -- a relative directory of an entry is looked up from the folder of the database
 abbrev pub base_of : (here name : List ℕ) → List ℕ
@@ -113,6 +114,15 @@ ground_by_entries here name files (Ok es) = ground_by_base here name files (base
 
 abbrev pub ground_of : (here : List ℕ) → FileWords → Database → Result Ground Report
 ground_of here files d = ground_by_entries here d.name files (entries d.value)
+
+-- a compiler's command is the entry of a build without a database: the compiler is run in the folder of the run
+abbrev pub ground_by_command : (here : List ℕ) → FileWords → Build → Result Ground Report
+ground_by_command here files b =
+    if length b.sources == 0 then Err no_command_source else
+    Ok (ground_by_root here command_name files here (path_from here []) (command_entry files.command ∷ []) b)
+
+abbrev pub command_ground : (here : List ℕ) → FileWords → Result Ground Report
+command_ground here files = ground_by_command here files (command_build here (items files.command))
 
 ---- files
 
@@ -234,8 +244,22 @@ all_uses b = flat_map (λ n. get_or b.uses n []) (range_with_len 0 (length b.sou
 abbrev pub with_all : Ground → Chosen → Chosen
 with_all g c = if c.has_all then record c { uses = all_uses g.build } else c
 
+-- entries, each once: a word may be given again, and a command is the entry of each of its sources
+abbrev pub entries_in : List Use → List ℕ
+entries_in us = map (λ (u : Use). u.entry) us
+
+abbrev pub with_use : Use → List Use → List Use
+with_use u us = if list_any (λ n. u.entry == n) (entries_in us) then us else us ++ u ∷ []
+
+abbrev pub each_once : (known : List Use) → List Use → List Use
+each_once known [] = known
+each_once known (u ∷ us) = each_once (with_use u known) us
+
+abbrev pub with_each_once : Chosen → Chosen
+with_each_once c = record c { uses = each_once [] c.uses }
+
 abbrev pub chosen : Ground → (files : List (List ℕ)) → Words → Result Chosen Report
-chosen g files w = and_chosen (with_each g files w.has_globs w.sources none_chosen) (λ c. Ok (with_all g c))
+chosen g files w = and_chosen (with_each g files w.has_globs w.sources none_chosen) (λ c. Ok (with_each_once (with_all g c)))
 
 ---- what entries ask for
 
@@ -503,8 +527,9 @@ abbrev pub all_empty : (files : List (List ℕ)) → (known : List (List ℕ)) �
 all_empty files known [] = []
 all_empty files known (d ∷ ds) = path_empty files known d ++ all_empty files (known_with known d) ds
 
-abbrev pub notes_of : (files : List (List ℕ)) → (absent : ℕ) → (skipped : List (List ℕ × ℕ)) → List Dirs → List ℕ
-notes_of files absent skipped ds = absent_notes absent ++ some_lines (map skipped_line skipped) ++ some_lines (all_empty files [] ds)
+abbrev pub notes_of : (name : List ℕ) → (files : List (List ℕ)) → (absent : ℕ) → (skipped : List (List ℕ × ℕ)) → List Dirs → List ℕ
+notes_of name files absent skipped ds =
+    absent_notes name absent ++ some_lines (map (skipped_line name) skipped) ++ some_lines (all_empty files [] ds)
 
 ---- the project
 
@@ -541,7 +566,7 @@ macros_of g (u ∷ us) = macros_at g u.entry
 abbrev pub added_by : Ground → (files : List (List ℕ)) → Chosen → (own : Dirs) → (others : List Dirs) → List BuildSource → Added
 added_by g files c own others compiled = record {
   is_build = true;
-  notes = notes_of files c.absent (skipped_of g.entries [] c.uses) (own ∷ others);
+  notes = notes_of g.name files c.absent (skipped_of g.entries [] c.uses) (own ∷ others);
   others = others;
   compiled = compiled;
 }
@@ -578,7 +603,7 @@ found_by_choice g files words w (Ok c) =
 ---- the words of a question, with those that a build gives in place of its own
 
 abbrev pub dir_words : Dirs → FileWords
-dir_words d = record { build = None; list = None; is_null = true; roots = []; dirs = d.dirs; quoted = d.quoted; system = d.system; last = d.last }
+dir_words d = record { build = None; command = []; list = None; is_null = true; roots = []; exclude = []; dirs = d.dirs; quoted = d.quoted; system = d.system; last = d.last }
 
 abbrev pub own_dirs : Found → Dirs
 own_dirs f = record { dirs = f.dirs; quoted = f.quoted; system = f.system; last = f.last }

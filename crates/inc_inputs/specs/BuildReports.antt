@@ -1,5 +1,5 @@
 -- What is reported and noted of a build. Each report is about the words of the command line or about the database that they name: status 2.
-use Rattle.std.specs.Prelude.{ℕ, ◌-◌, ◌==◌, List, [], ◌++◌, if◌then◌else◌, codes, decimal, flat_map, length, nat_lt, take}
+use Rattle.std.specs.Prelude.{ℕ, ◌-◌, ◌==◌, Bool, List, [], ◌++◌, if◌then◌else◌, bytes_eq, codes, decimal, flat_map, length, nat_lt, take}
 use Rattle.inc_build.specs.declared.compiler_words.Kind.{Kind}
 use Rattle.inc_build.specs.declared.compiler_words.Kind.TheVariants.{Quoted, Searched, System, Last, Macros, Included, Defined, Undefined}
 use Rattle.inc_build.specs.declared.databases.DatabaseFault.{DatabaseFault}
@@ -7,6 +7,17 @@ use Rattle.inc_build.specs.declared.databases.DatabaseFault.TheVariants as datab
 use Rattle.inc_build.specs.declared.entries.EntryFault.{EntryFault}
 use Rattle.inc_build.specs.declared.entries.EntryFault.TheVariants as entry
 use Rattle.inc_inputs.specs.Reports.{Report, note_line, out_of_memory, shown}
+
+-- what stands in place of the path of a database where the build is a compiler's command
+abbrev pub command_name : List ℕ
+command_name = codes "--"
+
+abbrev pub is_command : (name : List ℕ) → Bool
+is_command name = bytes_eq name command_name
+
+-- the word that a build is told by
+abbrev pub build_word : (name : List ℕ) → List ℕ
+build_word name = if is_command name then codes "--" else codes "-p"
 
 -- of the database of this path
 abbrev pub about_build : (name text : List ℕ) → Report
@@ -45,9 +56,13 @@ option_front Included = codes "-include "
 option_front Defined = codes "-D "
 option_front Undefined = codes "-U "
 
+-- an entry by its number; a command has but one
+abbrev pub entry_front : (name : List ℕ) → (number : ℕ) → List ℕ
+entry_front name number = if is_command name then [] else codes "entry " ++ decimal number ++ codes ": "
+
 -- an option of an entry with its value, or @FILE, that is not supported: an answer without it would be wrong
 abbrev pub unsupported : (name : List ℕ) → (number : ℕ) → (word : List ℕ) → Report
-unsupported name number word = about_build name (codes "entry " ++ decimal number ++ codes ": " ++ word ++ codes " is not supported")
+unsupported name number word = about_build name (entry_front name number ++ word ++ codes " is not supported")
 
 -- an entry by its number and its source
 abbrev pub numbered : (number : ℕ) → (file : List ℕ) → List ℕ
@@ -77,16 +92,21 @@ abbrev pub some_lines : List (List ℕ) → List ℕ
 some_lines lines =
     flat_map note_line (take 10 lines) ++ (if nat_lt 10 (length lines) then note_line (more_line (length lines - 10)) else [])
 
--- an option that is skipped, and in how many of the entries that count
-abbrev pub skipped_line : List ℕ × ℕ → List ℕ
-skipped_line (word, n) = codes "-p: skipped " ++ shown word ++ codes " (" ++ counted n (codes " entry)") (codes " entries)")
+-- in how many of the entries that count; a command has but one
+abbrev pub entries_text : (name : List ℕ) → ℕ → List ℕ
+entries_text name n = if is_command name then [] else codes " (" ++ counted n (codes " entry)") (codes " entries)")
+
+-- an option that is skipped
+abbrev pub skipped_line : (name : List ℕ) → List ℕ × ℕ → List ℕ
+skipped_line name (word, n) = build_word name ++ codes ": skipped " ++ shown word ++ entries_text name n
 
 -- a directory of the include path below which no file of the project is
 abbrev pub empty_line : (option dir : List ℕ) → List ℕ
 empty_line option dir = option ++ codes " " ++ shown dir ++ codes ": no file of the project lies there"
 
-abbrev pub absent_line : ℕ → List ℕ
-absent_line n = codes "-p: " ++ counted n (codes " source is no file of the project") (codes " sources are no files of the project")
+abbrev pub absent_line : (name : List ℕ) → ℕ → List ℕ
+absent_line name n =
+    build_word name ++ codes ": " ++ counted n (codes " source is no file of the project") (codes " sources are no files of the project")
 
-abbrev pub absent_notes : ℕ → List ℕ
-absent_notes n = if nat_lt 0 n then note_line (absent_line n) else []
+abbrev pub absent_notes : (name : List ℕ) → ℕ → List ℕ
+absent_notes name n = if nat_lt 0 n then note_line (absent_line name n) else []

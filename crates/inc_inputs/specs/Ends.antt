@@ -1,6 +1,7 @@
 -- Between which files of a project a question is asked: a source and a header by a word for each, those that the words of --from and --to
 -- stand for, or those of --from and a header by a word; or from which files, and to which groups of others.
 use Rattle.std.specs.Prelude.{ℕ, ◌==◌, ◌&&◌, not, Bool, false, List, [], ◌∷◌, ◌++◌, Option, Some, None, Result, Ok, Err, if◌then◌else◌, codes, filter, filter_map, length}
+use Rattle.std.specs.List.{fold}
 use Rattle.std.specs.Option.{option_map_or}
 use Rattle.inc_lookup.specs.Projects.{Layout, found_as, path_at}
 use Rattle.inc_globs.specs.Globs.{Piece, fits, is_glob, pieces}
@@ -65,11 +66,11 @@ after (Ok ps) rest = before ps rest
 after (Err r) rest = Err r
 
 -- those of several words, or the report of the first that stands for none
-abbrev pub words_paths : Layout → Side → (words : List (List ℕ)) → Paths
-words_paths layout side [] = Ok []
-words_paths layout side (w ∷ ws) = after (word_paths layout side w) (words_paths layout side ws)
+abbrev pub joined_paths : Layout → Side → (words : List (List ℕ)) → Paths
+joined_paths layout side [] = Ok []
+joined_paths layout side (w ∷ ws) = after (word_paths layout side w) (joined_paths layout side ws)
 
----- sources that are headers
+---- the files of paths
 
 -- the files that paths name; one that names none is passed over
 abbrev pub named_files : Layout → List (List ℕ) → List ℕ
@@ -78,6 +79,24 @@ named_files layout paths = filter_map (found_as layout.paths) paths
 -- the path names one of these files
 abbrev pub is_path_of : Layout → List ℕ → List ℕ → Bool
 is_path_of layout files path = option_map_or (λ f. is_member f files) (found_as layout.paths path) false
+
+-- paths and one behind them, unless it names a file that one of them names
+abbrev pub with_new : Layout → (paths : List (List ℕ)) → (path : List ℕ) → List (List ℕ)
+with_new layout paths path = if is_path_of layout (named_files layout paths) path then paths else paths ++ path ∷ []
+
+-- for each file the first path that names it, and all paths that name none
+abbrev pub once : Layout → (paths : List (List ℕ)) → List (List ℕ)
+once layout paths = fold (with_new layout) [] paths
+
+abbrev pub once_of : Layout → Paths → Paths
+once_of layout (Ok ps) = Ok (once layout ps)
+once_of layout (Err r) = Err r
+
+-- the paths for which words stand, with each file once, however many words fit it
+abbrev pub words_paths : Layout → Side → (words : List (List ℕ)) → Paths
+words_paths layout side words = once_of layout (joined_paths layout side words)
+
+---- sources that are headers
 
 -- the paths of sources without those of files that are headers, too
 abbrev pub apart : Layout → (sources headers : List (List ℕ)) → List (List ℕ)

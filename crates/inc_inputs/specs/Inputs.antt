@@ -8,8 +8,8 @@ pub data Input : Type 0 where
   FileAt : (path : List ℕ) → Input
   -- a file of the project, at its path of the list
   ListedAt : (path : List ℕ) → Input
-  -- the paths of the files of C below a folder, each ended by NUL
-  FilesBelow : (folder : List ℕ) → Input
+  -- the paths of the files of C below a folder, each ended by NUL, but for those that words for globs leave out (`is_excluded`)
+  FilesBelow : (folder : List ℕ) → (exclude : List (List ℕ)) → Input
   -- a file whose length memory alone bounds
   WholeAt : (path : List ℕ) → Input
   -- the absolute path of the folder of the run
@@ -23,9 +23,10 @@ named word = if bytes_eq word (codes "-") then StandardInput else FileAt word
 abbrev pub Gives : Type 0 → Type 1
 Gives S = S → Input → Result (List ℕ) ReadFault → S → Type 0
 
--- whether links are followed on the way to the files of the list is set, and that leads from one state to another
+-- it is set whether links are followed on the way to the files of the list, and whether notes are turned off, and that leads from one state to
+-- another
 abbrev pub Begins : Type 0 → Type 1
-Begins S = S → (follows : Bool) → S → Type 0
+Begins S = S → (follows quiet : Bool) → S → Type 0
 
 -- a text that is to be the file of a name is written whole, or not, and that leads from one state to another
 abbrev pub Puts : Type 0 → Type 1

@@ -11,7 +11,7 @@ pub mod BuildSteps
 pub mod Defines
 pub mod DirNotes
 pub mod Ends
-pub mod ExternalNames
+pub mod GlobWords
 pub mod HeaderNames
 pub mod IncludePath
 pub mod Inputs

@@ -1,49 +1,11 @@
 -- Lists of directives. A line is `LINE PATH`, as the answers print a directive, or `PATH:LINE:` with anything behind it, as `grep -n` and
 -- compilers print a line. A text that begins as a certificate does lists the directives of its cut.
-use Rattle.std.specs.Prelude.{ℕ, zero, suc, ◌+◌, ◌==◌, ◌&&◌, Bool, List, [], ◌∷◌, ◌++◌, Option, Some, None, Result, Ok, Err, if◌then◌else◌, take, drop, nat_lt, slice_index, codes}
-use Rattle.std.specs.Char.{is_ascii_digit}
-use Rattle.std.specs.List.{prefix_len, slice_split}
-use Rattle.inc_text.specs.Ascii.{colon, line_feed}
+use Rattle.std.specs.Prelude.{ℕ, zero, suc, ◌+◌, ◌==◌, List, [], ◌∷◌, ◌++◌, Option, Some, None, Result, Ok, Err, codes}
+use Rattle.std.specs.List.{slice_split}
+use Rattle.inc_text.specs.Ascii.{line_feed}
 use Rattle.inc_graph.specs.Marks.{Mark}
-use Rattle.inc_check.specs.Reading.{mark_in, mark_with, number_behind, number_in}
+use Rattle.inc_check.specs.Reading.{listed_mark, number_behind}
 use Rattle.inc_check.specs.Texts.{whole_lines}
-
----- a line
-
--- the digits that a text begins with
-abbrev pub front_digits : List ℕ → List ℕ
-front_digits text = take (prefix_len is_ascii_digit text) text
-
--- the text begins with `DIGITS:`
-abbrev pub begins_number : List ℕ → Bool
-begins_number text =
-    let n : ℕ = prefix_len is_ascii_digit text in nat_lt 0 n && (slice_index text n == colon)
-
--- where the first colon is, after so many bytes, behind which a text is so
-abbrev pub colon_from : (is_behind : List ℕ → Bool) → (at : ℕ) → List ℕ → Option ℕ
-colon_from is_behind at [] = None
-colon_from is_behind at (b ∷ bs) = if b == colon && is_behind bs then Some at else colon_from is_behind (at + 1) bs
-
--- where the first `:DIGITS:` is, after so many bytes
-abbrev pub place_from : (at : ℕ) → List ℕ → Option ℕ
-place_from at line = colon_from begins_number at line
-
--- the path before that place, and the number there
-abbrev pub mark_at_place : List ℕ → Option ℕ → Option Mark
-mark_at_place line None = None
-mark_at_place line (Some n) = mark_with (number_in (front_digits (drop (n + 1) line))) (take n line)
-
--- the mark of a line `PATH:LINE:`, whatever is behind it
-abbrev pub placed_mark : List ℕ → Option Mark
-placed_mark line = mark_at_place line (place_from 0 line)
-
-abbrev pub or_placed : Option Mark → List ℕ → Option Mark
-or_placed (Some m) line = Some m
-or_placed None line = placed_mark line
-
--- the mark of a line, which is taken as `LINE PATH` where it is that
-abbrev pub listed_mark : List ℕ → Option Mark
-listed_mark line = or_placed (mark_in line) line
 
 ---- lines
 

@@ -3,7 +3,7 @@ use Rattle.std.specs.Prelude.{ℕ, ◌-◌, ◌==◌, ◌&&◌, ◌||◌, not, B
 use Rattle.std.specs.Char.{is_ascii_alphanumeric, is_ascii_digit}
 use Rattle.std.specs.List.{prefix_len}
 use Rattle.inc_text.specs.Ascii.{blank, close_parenthesis, greater_than, less_than, open_parenthesis, quotation_mark, tab, underscore}
-use Rattle.inc_inputs.specs.MarkLists.{colon_from}
+use Rattle.inc_check.specs.Reading.{colon_from}
 use Rattle.inc_inputs.specs.declared.place_words.WordEnd.{WordEnd}
 use Rattle.inc_inputs.specs.declared.place_words.WordEnd.TheVariants.{Line, Name}
 

@@ -3,7 +3,7 @@ use Rattle.std.specs.Prelude.{ℕ, ◌||◌, Bool, true, false, List, [], ◌∷
 use Rattle.inc_args.specs.Meaning.{FileWords}
 use Rattle.inc_inputs.specs.Inputs.{FilesBelow, Gives}
 use Rattle.inc_inputs.specs.Lists.{list_paths}
-use Rattle.inc_inputs.specs.Reports.{two_lists}
+use Rattle.inc_inputs.specs.Reports.{list_and_globs, two_lists}
 use Rattle.inc_inputs.specs.Steps.{Step, comes_to, each, reads, reads_as, then}
 use Rattle.inc_inputs.specs.declared.file_lists.PathEnd.{PathEnd}
 use Rattle.inc_inputs.specs.declared.file_lists.PathEnd.TheVariants.{LineFeed, Nul}
@@ -13,23 +13,28 @@ abbrev pub or_here : List (List ℕ) → List (List ℕ)
 or_here [] = codes "." ∷ []
 or_here (folder ∷ folders) = folder ∷ folders
 
--- the files below a folder, behind those that are known
-abbrev pub with_folder : {S : Type 0} → Gives S → (folder known : List ℕ) → Step S (List ℕ)
-with_folder gives folder known = then (reads_as gives folder (FilesBelow folder)) (λ more. comes_to (Ok (known ++ more)))
+-- the files below a folder but those that are left out, behind those that are known
+abbrev pub with_folder : {S : Type 0} → Gives S → (exclude : List (List ℕ)) → (folder known : List ℕ) → Step S (List ℕ)
+with_folder gives exclude folder known = then (reads_as gives folder (FilesBelow folder exclude)) (λ more. comes_to (Ok (known ++ more)))
 
 -- those below folders, one folder after the other
-abbrev pub files_below : {S : Type 0} → Gives S → (folders : List (List ℕ)) → Step S (List ℕ)
-files_below gives folders = each (with_folder gives) folders []
+abbrev pub files_below : {S : Type 0} → Gives S → (exclude folders : List (List ℕ)) → Step S (List ℕ)
+files_below gives exclude folders = each (with_folder gives exclude) folders []
+
+-- the list that a word names has its files as they are
+abbrev pub list_named : {S : Type 0} → Gives S → (name : List ℕ) → (exclude folders : List (List ℕ)) → Step S (List ℕ)
+list_named gives name exclude (folder ∷ folders) = comes_to (Err two_lists)
+list_named gives name (glob ∷ globs) [] = comes_to (Err list_and_globs)
+list_named gives name [] [] = reads gives name
 
 -- a word that names it and folders exclude each other
-abbrev pub list_by : {S : Type 0} → Gives S → (name : Option (List ℕ)) → (folders : List (List ℕ)) → Step S (List ℕ)
-list_by gives (Some name) [] = reads gives name
-list_by gives (Some name) (folder ∷ folders) = comes_to (Err two_lists)
-list_by gives None folders = files_below gives (or_here folders)
+abbrev pub list_by : {S : Type 0} → Gives S → (name : Option (List ℕ)) → (exclude folders : List (List ℕ)) → Step S (List ℕ)
+list_by gives (Some name) exclude folders = list_named gives name exclude folders
+list_by gives None exclude folders = files_below gives exclude (or_here folders)
 
 -- the text of the list
 abbrev pub list_of : {S : Type 0} → Gives S → FileWords → Step S (List ℕ)
-list_of gives files = list_by gives files.list files.roots
+list_of gives files = list_by gives files.list files.exclude files.roots
 
 -- what ends each of its paths: NUL with --null, and where no word names it
 abbrev pub path_end_of : (is_null : Bool) → PathEnd

@@ -106,6 +106,15 @@ two_languages = record { message = codes "--extended and --gnu exclude each othe
 abbrev pub two_lists : Report
 two_lists = record { message = codes "--files and --root exclude each other"; status = 2 }
 
+abbrev pub list_and_globs : Report
+list_and_globs = record { message = codes "--files and --exclude exclude each other"; status = 2 }
+
+abbrev pub two_builds : Report
+two_builds = record { message = codes "-p and -- exclude each other"; status = 2 }
+
+abbrev pub no_command_source : Report
+no_command_source = record { message = codes "-- names no source"; status = 2 }
+
 abbrev pub input_twice : Report
 input_twice = record { message = codes "standard input can be read only once"; status = 2 }
 
@@ -193,6 +202,9 @@ report_of failure.NoMostOutput = no_most_output
 report_of failure.NoScanFormat = no_scan_format
 report_of failure.TwoLanguages = two_languages
 report_of failure.TwoLists = two_lists
+report_of failure.ListAndGlobs = list_and_globs
+report_of failure.TwoBuilds = two_builds
+report_of failure.NoCommandSource = no_command_source
 report_of failure.NoEnds = no_ends
 report_of failure.NoHeaders = no_headers
 report_of (failure.BadGlob text) = record { message = text.items; status = 2 }

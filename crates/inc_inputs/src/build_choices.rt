@@ -11,6 +11,8 @@ use crate::build_texts::one_more;
 use crate::failures::{Failure, glob_failure, unfit};
 use inc_build::{Use, path_from};
 use inc_globs::{Glob, GlobFault, is_glob};
+use inc_text::SeededState;
+use indexmap::IndexSet;
 use std::alloc::{AllocError, Global};
 
 /// What words ask of a build.
@@ -41,9 +43,10 @@ pub(crate) struct Choice {
 
 /// What words for sources come to: an entry of its own is one of the absolute path of a word; a glob stands for the
 /// sources of the build that it fits, as the project has them, and where it fits none for files of the project, as
-/// ever.
+/// ever. Each entry counts once.
 pub(crate) fn choose(
     alloc: Global,
+    seed: u64,
     ground: &Ground<'_>,
     files: &BuildFiles,
     words: &BuildWords<'_>,
@@ -52,9 +55,72 @@ pub(crate) fn choose(
         seen_chosen result ≡ spec.chosen (ground_in ground.now) files.now (words_in words.now) }
 {
     match choose_each(alloc, ground, files, words) {
-        Ok(choice) => with_all(alloc, ground, choice),
+        Ok(choice) => with_all_once(alloc, seed, ground, choice),
         Err(failure) => Err(failure),
     }
+}
+
+/// The same with each entry once, and with all entries where a source has none of its own.
+fn with_all_once(
+    alloc: Global,
+    seed: u64,
+    ground: &Ground<'_>,
+    choice: Choice,
+) -> Result<Choice, Failure>
+    ensures { seen_chosen result ≢ Err out_of_memory →
+        seen_chosen result ≡ Ok (spec.with_each_once (spec.with_all (ground_in ground.now) (chosen_in choice))) }
+{
+    match with_all(alloc, ground, choice) {
+        Ok(choice) => with_each_once(alloc, seed, choice),
+        Err(failure) => Err(failure),
+    }
+}
+
+/// The same with each entry once.
+fn with_each_once(alloc: Global, seed: u64, choice: Choice) -> Result<Choice, Failure>
+    ensures { seen_chosen result ≢ Err out_of_memory →
+        seen_chosen result ≡ Ok (spec.with_each_once (chosen_in choice)) }
+{
+    match each_once(alloc, seed, &choice.uses) {
+        Ok(uses) => Ok(Choice {
+            sources: choice.sources,
+            uses,
+            has_all: choice.has_all,
+            absent: choice.absent,
+        }),
+        Err(_) => Err(Failure::NoMemory),
+    }
+}
+
+/// Entries, each once, where it comes first.
+fn each_once(alloc: Global, seed: u64, uses: &[Use]) -> Result<Vec<Use>, AllocError>
+    ensures { IfOk result (λ once. once.items ≡ spec.each_once [] uses.now) }
+{
+    let mut known = IndexSet::with_hasher(alloc, SeededState::new(seed));
+    let mut once = Vec::new(alloc);
+    let mut at = 0;
+    while at < uses.len() {
+        add_use(&mut known, &mut once, uses[at])?;
+        at += 1;
+    }
+    Ok(once)
+}
+
+/// Adds an entry, unless its number is known.
+fn add_use(
+    known: &mut IndexSet<usize, SeededState>,
+    once: &mut Vec<Use>,
+    one: Use,
+) -> Result<(), AllocError>
+    ensures once { known.old.keys ≡ spec.entries_in once.old.items → OnOk result (once.new.items ≡ spec.with_use one once.old.items) }
+    ensures known { known.old.keys ≡ spec.entries_in once.old.items → OnOk result (known.new.keys ≡ spec.entries_in once.new.items) }
+{
+    let is_new = known.insert(one.entry)?;
+    if !is_new {
+        return Ok(());
+    }
+    once.push(one)?;
+    Ok(())
 }
 
 /// What words for sources come to, where only entries of their own count.

@@ -470,16 +470,17 @@ fn next_count(counts: &IndexMap<Key, usize, SeededState>, word: &[u8]) -> Result
     }
 }
 
-/// The notes of the options that are skipped.
+/// The notes of the options that are skipped, of the build with this name.
 pub(crate) fn skipped_notes(
     alloc: Global,
+    name: &[u8],
     counts: &IndexMap<Key, usize, SeededState>,
 ) -> Result<Notes, AllocError>
-    ensures { IfOk result (λ notes. notes_in notes ≡ with_lines none (map skipped_line counts.now.entries)) }
+    ensures { IfOk result (λ notes. notes_in notes ≡ with_lines none (map (skipped_line name.now) counts.now.entries)) }
 {
     let mut notes = Notes::new(alloc);
     for at in 0..counts.len() {
-        add_counted(alloc, &mut notes, counts, at)?;
+        add_counted(alloc, &mut notes, name, counts, at)?;
     }
     Ok(notes)
 }
@@ -488,14 +489,15 @@ pub(crate) fn skipped_notes(
 fn add_counted(
     alloc: Global,
     notes: &mut Notes,
+    name: &[u8],
     counts: &IndexMap<Key, usize, SeededState>,
     at: usize,
 ) -> Result<(), AllocError>
     ensures { (p : List ℕ × ℕ) → slice_get counts.now.entries at ≡ Some p →
-        OnOk result (notes_in notes.new ≡ with_line (notes_in notes.old) (skipped_line p)) }
+        OnOk result (notes_in notes.new ≡ with_line (notes_in notes.old) (skipped_line name.now p)) }
 {
     match counts.get_index(at) {
-        Some((word, count)) => notes.add_skipped(alloc, word.bytes(), *count),
+        Some((word, count)) => notes.add_skipped(alloc, name, word.bytes(), *count),
         None => Ok(()),
     }
 }

@@ -1,5 +1,5 @@
 //! The files of a project that a compilation database names.
-ghost use Rattle.std.specs.Prelude.{◌≡◌, ◌+◌, ◌++◌, [], IfOk, OnOk, bytes_eq, codes, drop, not};
+ghost use Rattle.std.specs.Prelude.{◌≡◌, ◌+◌, ◌++◌, [], IfOk, OnOk, bytes_eq, codes, drop, map, not};
 ghost use Rattle.std.specs.List.{list_any};
 ghost use Rattle.inc_args.specs.Views.{seen_files};
 ghost use Rattle.inc_build.specs.Builds.{is_named, with_name};
@@ -206,27 +206,28 @@ pub(crate) fn read_files<I: Inputs>(
 {
     let keys = SeededState::new(seed);
     if !names_files(files) {
-        return read_root_files(alloc, keys, inputs, ground);
+        return read_root_files(alloc, keys, inputs, ground, &files.exclude);
     }
     let list = read_list(alloc, inputs, files)?;
     Ok(files_by(alloc, keys, ground, &list, path_end_in(files))?)
 }
 
-/// The files below the deepest folder of a project.
+/// The files below the deepest folder of a project, but for those that are left out.
 fn read_root_files<I: Inputs>(
     alloc: Global,
     keys: SeededState,
     inputs: &mut I,
     ground: &Ground<'_>,
+    exclude: &[&str],
 ) -> Result<BuildFiles, Failure>
-    ensures { Comes (root_files I.gives (ground_in ground.now) (spec.has_no_folder (ground_in ground.now)))
+    ensures { Comes (root_files I.gives (ground_in ground.now) (map (λ g. g.now) exclude.now) (spec.has_no_folder (ground_in ground.now)))
         inputs.old (seen_list result) inputs.new }
 {
     if has_no_folder(ground) {
         let text = b"its files have no common folder; give --root";
         return Err(about(alloc, ground.name, text));
     }
-    let list = list_root(alloc, inputs, ground)?;
+    let list = list_root(alloc, inputs, ground, exclude)?;
     Ok(files_by(alloc, keys, ground, &list, PathEnd::Nul)?)
 }
 
@@ -242,11 +243,12 @@ fn list_root<I: Inputs>(
     alloc: Global,
     inputs: &mut I,
     ground: &Ground<'_>,
+    exclude: &[&str],
 ) -> Result<Vec<u8>, Failure>
-    ensures { Comes (root_list I.gives (spec.root_form (ground_in ground.now))) inputs.old (seen_text result) inputs.new }
+    ensures { Comes (root_list I.gives (map (λ g. g.now) exclude.now) (spec.root_form (ground_in ground.now))) inputs.old (seen_text result) inputs.new }
 {
     match str::from_utf8(ground.forms().of(&ground.root)) {
-        Ok(root) => list_folder(alloc, inputs, root),
+        Ok(root) => list_folder(alloc, inputs, exclude, root),
         Err(_) => Err(Failure::NotUtf8),
     }
 }

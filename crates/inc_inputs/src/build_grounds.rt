@@ -1,11 +1,14 @@
 //! What a project rests on that a compilation database names: its entries, and the deepest folder that all of it is in.
-ghost use Rattle.std.specs.Prelude.{◌≡◌, ◌≢◌, ◌+◌, Err, IfOk, OnOk, drop, map};
+ghost use Rattle.std.specs.Prelude.{◌≡◌, ◌≢◌, ◌∷◌, ◌+◌, [], Err, IfOk, OnOk, drop, map};
 ghost use Rattle.std.specs.List.{list_all};
 ghost use Rattle.inc_args.specs.Views.{seen_files};
+ghost use Rattle.inc_build.specs.CompilerCommands.{command_build};
+ghost use Rattle.inc_build.specs.CompilerWords.{items as items_of};
 ghost use Rattle.inc_build.specs.Views.{seen_build, seen_entry, seen_row, seen_rows};
 ghost use Rattle.inc_build.specs.Paths.{path_from};
 ghost use Rattle.inc_inputs.specs.BuildPaths.{common_of, folder_of};
 ghost use Rattle.inc_inputs.specs.BuildProjects as spec;
+ghost use Rattle.inc_inputs.specs.BuildReports.{command_name};
 ghost use Rattle.inc_inputs.specs.BuildSteps.{database_in_folder, database_of, here_of, in_folder};
 ghost use Rattle.inc_inputs.specs.Reports.{out_of_memory};
 ghost use Rattle.inc_inputs.specs.Steps.{Comes};
@@ -16,13 +19,18 @@ use crate::build_texts::{about, database_failure};
 use crate::failures::{Failure, read_failure, unread};
 use crate::inputs::Inputs;
 use inc_args::FileList;
-use inc_build::{Build, Entry, Kind, Row, path_from, read_database, read_entries};
+use inc_build::{
+    Build, Entry, Kind, Row, command_entry, items, path_from, read_database, read_entries,
+};
 use inc_text::ReadFault;
 use serde_json::Value;
 use std::alloc::{AllocError, Global};
 
 /// The name of a database in its folder.
 const INSIDE: &[u8] = b"/compile_commands.json";
+
+/// What stands in place of the path of a database where the build is a compiler's command.
+pub(crate) const COMMAND: &[u8] = b"--";
 
 /// A database: its path, as reports have it, and its value.
 #[derive(Drop)]
@@ -36,7 +44,7 @@ pub(crate) struct Database {
 pub(crate) struct Ground<'v> {
     /// The folder of the run.
     pub(crate) here: Vec<u8>,
-    /// The path of the database.
+    /// The path of the database, or what stands in its place.
     pub(crate) name: &'v [u8],
     pub(crate) entries: Vec<Entry<'v>>,
     pub(crate) build: Build,
@@ -175,24 +183,74 @@ fn ground_by_entries<'v>(
         return Err(about(alloc, name, b"no entries"));
     };
     let root = path_from(alloc, &base, first.directory)?;
-    Ok(ground_by_root(alloc, seed, here, name, files, &base, root, entries)?)
+    let build = Build::new(alloc, seed, &base, &entries)?;
+    Ok(ground_by_root(alloc, here, name, files, &base, root, entries, build)?)
 }
 
-/// What a project rests on by the entries of its database. Its deepest folder is found by narrowing one that the
+/// What a project rests on by a compiler's command, which is run in the folder of the run. It takes its words from there.
+pub(crate) fn command_ground<'v>(
+    alloc: Global,
+    seed: u64,
+    here: Vec<u8>,
+    files: &'v FileList<'v>,
+) -> Result<Ground<'v>, Failure>
+    ensures { seen_ground result ≢ Err out_of_memory →
+        seen_ground result ≡ spec.command_ground here.items (seen_files files.entry.now) }
+{
+    let entry = command_entry(alloc, files.command)?;
+    let build = build_of_entry(alloc, seed, &here, &entry)?;
+    if build.source_count() == 0 {
+        return Err(Failure::NoCommandSource);
+    }
+    Ok(ground_by_entry(alloc, here, files, entry, build)?)
+}
+
+/// The build of a compiler's command.
+fn build_of_entry(
+    alloc: Global,
+    seed: u64,
+    here: &[u8],
+    entry: &Entry<'_>,
+) -> Result<Build, AllocError>
+    ensures { IfOk result (λ b. seen_build b ≡ command_build here.now (items_of (seen_entry entry.now).words)) }
+{
+    let items = items(alloc, &entry.words)?;
+    Build::of_command(alloc, seed, here, &items)
+}
+
+/// What a project rests on by the entry of a compiler's command.
+fn ground_by_entry<'v>(
+    alloc: Global,
+    here: Vec<u8>,
+    files: &FileList<'_>,
+    entry: Entry<'v>,
+    build: Build,
+) -> Result<Ground<'v>, AllocError>
+    ensures { IfOk result (λ g. ground_in g ≡ spec.ground_by_root here.items command_name (seen_files files.now) here.items (path_from here.items [])
+        (seen_entry entry.entry ∷ []) (seen_build build)) }
+{
+    let base = Vec::from_slice(alloc, &here)?;
+    let root = path_from(alloc, &base, b"")?;
+    let mut entries = Vec::new(alloc);
+    entries.push(entry)?;
+    ground_by_root(alloc, here, COMMAND, files, &base, root, entries, build)
+}
+
+/// What a project rests on by the entries of its build. Its deepest folder is found by narrowing one that the
 /// directory of an entry is.
 fn ground_by_root<'v>(
     alloc: Global,
-    seed: u64,
     here: Vec<u8>,
     name: &'v [u8],
     files: &FileList<'_>,
     base: &[u8],
     root: Vec<u8>,
     entries: Vec<Entry<'v>>,
+    build: Build,
 ) -> Result<Ground<'v>, AllocError>
-    ensures { IfOk result (λ g. ground_in g ≡ spec.ground_by_root here.items name.entry.now (seen_files files.now) base.now root.items (map seen_entry entries.entry.items)) }
+    ensures { IfOk result (λ g. ground_in g
+        ≡ spec.ground_by_root here.items name.entry.now (seen_files files.now) base.now root.items (map seen_entry entries.entry.items) (seen_build build)) }
 {
-    let build = Build::new(alloc, seed, base, &entries)?;
     let root = narrowed(alloc, root, base, &entries, &build)?;
     let is_relative = are_relative(alloc, &here, files, &root)?;
     Ok(Ground {

@@ -1,9 +1,9 @@
-//! The project that a question with `-p BUILD` is about, and the words that stand in place of those of the question.
+//! The project that a question with a build is about, and the words that stand in place of those of the question.
 ghost use Rattle.std.specs.Prelude.{◌≡◌, ◌≢◌, ◌++◌, [], ◌∷◌, List, None, Some, Err, Ok, false, true, IfErr, IfOk, OnOk, map, option_map};
 ghost use Rattle.inc_args.specs.Views.{seen_files, seen_pp, seen_question};
 ghost use Rattle.inc_inputs.specs.BuildProjects as spec;
 ghost use Rattle.inc_inputs.specs.BuildReports.{skipped_line, some_lines};
-ghost use Rattle.inc_inputs.specs.BuildSteps.{found, found_by, found_if, found_in, found_of_word, found_on};
+ghost use Rattle.inc_inputs.specs.BuildSteps.{found, found_by, found_here, found_if, found_in, found_of_command, found_of_words, found_on};
 ghost use Rattle.inc_inputs.specs.Reports.{not_utf8, out_of_memory, report_of};
 ghost use Rattle.std.specs.Str.{is_utf8};
 ghost use Rattle.inc_inputs.specs.Steps.{Comes};
@@ -14,7 +14,9 @@ use crate::build_dirs::{Dirs, all_dirs, other_dirs};
 use crate::build_empty::put_empty;
 use crate::build_entries::{check_uses, first_macros, rows_at, skipped_notes, skipped_of};
 use crate::build_files::{BuildFiles, read_files};
-use crate::build_grounds::{Database, Ground, ground_of, read_here, read_named_database};
+use crate::build_grounds::{
+    Database, Ground, command_ground, ground_of, read_here, read_named_database,
+};
 use crate::build_macros::MacroWord;
 use crate::build_sources::{BuildSource, compiled_of, used_paths};
 use crate::build_texts::put_absent;
@@ -68,7 +70,7 @@ impl Added {
     }
 }
 
-/// The project of a question, if it names a build.
+/// The project of a question, if there is a build.
 pub fn find_question<I: Inputs>(
     alloc: Global,
     seed: u64,
@@ -99,7 +101,7 @@ fn question_words<'a>(
     })
 }
 
-/// The project of a preprocessing, if it names a build.
+/// The project of a preprocessing, if there is a build.
 pub fn find_preprocessing<I: Inputs>(
     alloc: Global,
     seed: u64,
@@ -144,7 +146,7 @@ fn alone_or<'a>(
     Ok(alone)
 }
 
-/// The project of a build, if a word names one.
+/// The project of a build, if a word names one, or words are a compiler's command; both exclude each other.
 fn find_if<I: Inputs>(
     alloc: Global,
     seed: u64,
@@ -155,8 +157,59 @@ fn find_if<I: Inputs>(
     ensures { Comes (found_if I.gives (seen_files files.now) (words_in words.now)) inputs.old (seen_project result) inputs.new }
 {
     match files.build {
+        Some(_) if !files.command.is_empty() => Err(Failure::TwoBuilds),
         Some(build) => find_named(alloc, seed, inputs, build, files, words),
+        None if !files.command.is_empty() => find_command(alloc, seed, inputs, files, words),
         None => Ok(None),
+    }
+}
+
+/// The project of a compiler's command.
+fn find_command<I: Inputs>(
+    alloc: Global,
+    seed: u64,
+    inputs: &mut I,
+    files: &FileList<'_>,
+    words: &BuildWords<'_>,
+) -> Result<Option<BuildProject>, Failure>
+    ensures { Comes (found_of_words I.gives (seen_files files.now) (words_in words.now) None true) inputs.old (seen_project result) inputs.new }
+{
+    match find_run(alloc, seed, inputs, files, words) {
+        Ok(found) => Ok(Some(found)),
+        Err(failure) => Err(failure),
+    }
+}
+
+/// The same, once the folder of the run is read.
+fn find_run<I: Inputs>(
+    alloc: Global,
+    seed: u64,
+    inputs: &mut I,
+    files: &FileList<'_>,
+    words: &BuildWords<'_>,
+) -> Result<BuildProject, Failure>
+    ensures { Comes (found_of_command I.gives (seen_files files.now) (words_in words.now)) inputs.old (seen_found result) inputs.new }
+{
+    match read_here(alloc, inputs) {
+        Ok(here) => find_here(alloc, seed, inputs, here, files, words),
+        Err(failure) => Err(failure),
+    }
+}
+
+/// The same in a folder of the run.
+fn find_here<I: Inputs>(
+    alloc: Global,
+    seed: u64,
+    inputs: &mut I,
+    here: Vec<u8>,
+    files: &FileList<'_>,
+    words: &BuildWords<'_>,
+) -> Result<BuildProject, Failure>
+    ensures { Comes (found_here I.gives here.items (seen_files files.now) (words_in words.now)) inputs.old (seen_found result) inputs.new }
+{
+    match command_ground(alloc, seed, here, files) {
+        Ok(ground) => find_on(alloc, seed, inputs, &ground, files, words),
+        Err(failure) => Err(failure),
     }
 }
 
@@ -169,7 +222,7 @@ fn find_named<I: Inputs>(
     files: &FileList<'_>,
     words: &BuildWords<'_>,
 ) -> Result<Option<BuildProject>, Failure>
-    ensures { Comes (found_of_word I.gives (seen_files files.now) (words_in words.now) (Some build.now)) inputs.old (seen_project result) inputs.new }
+    ensures { Comes (found_of_words I.gives (seen_files files.now) (words_in words.now) (Some build.now) false) inputs.old (seen_project result) inputs.new }
 {
     match find(alloc, seed, inputs, build, files, words) {
         Ok(found) => Ok(Some(found)),
@@ -259,7 +312,7 @@ fn project_by(
     ensures { let g = ground_in ground.now in let w = words_in words.now in seen_found result ≢ Err out_of_memory →
         seen_found result ≡ spec.found_by_choice g found.now (seen_files files.now) w (spec.chosen g found.now w) }
 {
-    match choose(alloc, ground, found, words) {
+    match choose(alloc, seed, ground, found, words) {
         Ok(choice) => project_of(alloc, seed, ground, found, files, words, choice),
         Err(failure) => Err(failure),
     }
@@ -385,10 +438,10 @@ fn notes_of(
     others: &[Dirs],
 ) -> Result<Vec<u8>, AllocError>
     ensures { let g = ground_in ground.now in let c = chosen_in choice.now in IfOk result (λ notes. notes.items
-        ≡ spec.notes_of found.now c.absent (spec.skipped_of g.entries [] c.uses) (dirs_in own.now ∷ map dirs_in others.now)) }
+        ≡ spec.notes_of g.name found.now c.absent (spec.skipped_of g.entries [] c.uses) (dirs_in own.now ∷ map dirs_in others.now)) }
 {
     let mut notes = Vec::new(alloc);
-    put_absent(alloc, &mut notes, choice.absent)?;
+    put_absent(alloc, &mut notes, ground.name, choice.absent)?;
     put_skipped(alloc, seed, ground, &choice.uses, &mut notes)?;
     put_empty(alloc, seed, found, own, others, &mut notes)?;
     Ok(notes)
@@ -403,10 +456,10 @@ fn put_skipped(
     notes: &mut Vec<u8>,
 ) -> Result<(), AllocError>
     ensures { OnOk result (notes.new.items
-        ≡ notes.old.items ++ some_lines (map skipped_line (spec.skipped_of (ground_in ground.now).entries [] uses.now))) }
+        ≡ notes.old.items ++ some_lines (map (skipped_line (ground_in ground.now).name) (spec.skipped_of (ground_in ground.now).entries [] uses.now))) }
 {
     let skipped = skipped_of(alloc, seed, ground, uses)?;
-    let own = skipped_notes(alloc, &skipped)?;
+    let own = skipped_notes(alloc, ground.name, &skipped)?;
     own.put(alloc, notes)?;
     Ok(())
 }
@@ -496,9 +549,11 @@ impl BuildProject {
     {
         Ok(FileList {
             build: None,
+            command: &[],
             list: None,
             is_null: true,
             roots: Vec::new(alloc),
+            exclude: Vec::new(alloc),
             dirs: texts_of(alloc, &self.dirs.dirs)?,
             quoted: texts_of(alloc, &self.dirs.quoted)?,
             system: texts_of(alloc, &self.dirs.system)?,

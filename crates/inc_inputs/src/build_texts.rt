@@ -7,6 +7,7 @@ ghost use Rattle.inc_inputs.specs.BuildReports as spec;
 ghost use Rattle.inc_inputs.specs.Reports.{note_line, out_of_memory, report_of, shown};
 ghost use Rattle.inc_inputs.specs.Views.{notes_in};
 
+use crate::build_grounds::COMMAND;
 use crate::failures::{Failure, put_shown};
 use inc_build::{DatabaseFault, Entry, EntryFault, Kind};
 use itoa::Buffer;
@@ -146,24 +147,53 @@ pub(crate) fn unsupported(
     ensures { report_of result ≢ out_of_memory →
         report_of result ≡ spec.unsupported name.now (suc entry) (front.now ++ shown value.now) }
 {
-    about_made(alloc, name, unsupported_text(alloc, entry, front, value))
+    about_made(
+        alloc,
+        name,
+        unsupported_text(alloc, name, entry, front, value),
+    )
 }
 
 /// The text of that.
 fn unsupported_text(
     alloc: Global,
+    name: &[u8],
     entry: usize,
     front: &[u8],
     value: &[u8],
 ) -> Result<Vec<u8>, AllocError>
     ensures { IfOk result (λ text. text.items
-        ≡ codes "entry " ++ decimal (suc entry) ++ codes ": " ++ (front.now ++ shown value.now) ++ codes " is not supported") }
+        ≡ spec.entry_front name.now (suc entry) ++ (front.now ++ shown value.now) ++ codes " is not supported") }
 {
-    let mut word = Vec::from_slice(alloc, front)?;
-    put_shown(&mut word, value)?;
-    let mut text = entry_text(alloc, one_more(entry)?, &word)?;
+    let mut text = entry_front(alloc, name, entry)?;
+    text.extend_from_slice(front)?;
+    put_shown(&mut text, value)?;
     text.extend_from_slice(b" is not supported")?;
     Ok(text)
+}
+
+/// What begins a text about an entry, by its number from 0 on; nothing where the build is a compiler's command, which has but one.
+fn entry_front(alloc: Global, name: &[u8], entry: usize) -> Result<Vec<u8>, AllocError>
+    ensures { IfOk result (λ text. text.items ≡ spec.entry_front name.now (suc entry)) }
+{
+    if is_command(name) {
+        return Ok(Vec::new(alloc));
+    }
+    entry_text(alloc, one_more(entry)?, b"")
+}
+
+/// Whether the build is a compiler's command.
+fn is_command(name: &[u8]) -> bool
+    ensures { result ≡ spec.is_command name.now }
+{
+    name == COMMAND
+}
+
+/// The word that stands for a build in notes and reports.
+fn build_word(name: &[u8]) -> &'static [u8]
+    ensures { result.now ≡ spec.build_word name.now }
+{
+    if is_command(name) { COMMAND } else { b"-p" }
 }
 
 /// The failure to report of two entries, by their numbers from 0 on, that do not agree.
@@ -240,16 +270,17 @@ impl Notes {
         }
     }
 
-    /// Adds that an option is skipped in so many entries.
+    /// Adds that an option is skipped in so many entries of the build with this name.
     pub(crate) fn add_skipped(
         &mut self,
         alloc: Global,
+        name: &[u8],
         word: &[u8],
         count: usize,
     ) -> Result<(), AllocError>
-        ensures { OnOk result (notes_in self.new ≡ kept.with_line (notes_in self.old) (spec.skipped_line (word.now, count))) }
+        ensures { OnOk result (notes_in self.new ≡ kept.with_line (notes_in self.old) (spec.skipped_line name.now (word.now, count))) }
     {
-        let line = skipped_line(alloc, word, count)?;
+        let line = skipped_line(alloc, name, word, count)?;
         self.add(&line)
     }
 
@@ -318,14 +349,30 @@ fn more_line(alloc: Global, count: usize) -> Result<Vec<u8>, AllocError>
 }
 
 /// An option that is skipped, and in how many entries.
-fn skipped_line(alloc: Global, word: &[u8], count: usize) -> Result<Vec<u8>, AllocError>
-    ensures { IfOk result (λ line. line.items ≡ spec.skipped_line (word.now, count)) }
+fn skipped_line(
+    alloc: Global,
+    name: &[u8],
+    word: &[u8],
+    count: usize,
+) -> Result<Vec<u8>, AllocError>
+    ensures { IfOk result (λ line. line.items ≡ spec.skipped_line name.now (word.now, count)) }
 {
-    let mut line = Vec::from_slice(alloc, b"-p: skipped ")?;
+    let mut line = Vec::from_slice(alloc, build_word(name))?;
+    line.extend_from_slice(b": skipped ")?;
     put_shown(&mut line, word)?;
-    line.extend_from_slice(b" (")?;
-    put_counted(&mut line, count, b" entry)", b" entries)")?;
+    put_entries(&mut line, name, count)?;
     Ok(line)
+}
+
+/// Adds in how many entries that is, where there may be several.
+fn put_entries(line: &mut Vec<u8>, name: &[u8], count: usize) -> Result<(), AllocError>
+    ensures { OnOk result (line.new.items ≡ line.old.items ++ spec.entries_text name.now count) }
+{
+    if is_command(name) {
+        return Ok(());
+    }
+    line.extend_from_slice(b" (")?;
+    put_counted(line, count, b" entry)", b" entries)")
 }
 
 /// A directory below which no file of the project is.
@@ -340,20 +387,26 @@ fn empty_line(alloc: Global, option: &[u8], dir: &[u8]) -> Result<Vec<u8>, Alloc
 }
 
 /// Adds a note of how many sources are no files of the project, if there are some.
-pub(crate) fn put_absent(alloc: Global, notes: &mut Vec<u8>, count: usize) -> Result<(), AllocError>
-    ensures { OnOk result (notes.new.items ≡ notes.old.items ++ spec.absent_notes count) }
+pub(crate) fn put_absent(
+    alloc: Global,
+    notes: &mut Vec<u8>,
+    name: &[u8],
+    count: usize,
+) -> Result<(), AllocError>
+    ensures { OnOk result (notes.new.items ≡ notes.old.items ++ spec.absent_notes name.now count) }
 {
     if count > 0 {
-        put_note(notes, &absent_line(alloc, count)?)?;
+        put_note(notes, &absent_line(alloc, name, count)?)?;
     }
     Ok(())
 }
 
 /// How many sources are no files of the project.
-fn absent_line(alloc: Global, count: usize) -> Result<Vec<u8>, AllocError>
-    ensures { IfOk result (λ line. line.items ≡ spec.absent_line count) }
+fn absent_line(alloc: Global, name: &[u8], count: usize) -> Result<Vec<u8>, AllocError>
+    ensures { IfOk result (λ line. line.items ≡ spec.absent_line name.now count) }
 {
-    let mut line = Vec::from_slice(alloc, b"-p: ")?;
+    let mut line = Vec::from_slice(alloc, build_word(name))?;
+    line.extend_from_slice(b": ")?;
     put_counted(
         &mut line,
         count,

@@ -1,11 +1,12 @@
 //! Between which files of a project a question is asked.
 ghost use Rattle.std.specs.Prelude.{◌≡◌, ◌≢◌, ◌<◌, ◌∷◌, ◌++◌, [], ℕ, List, Ok, Err, OnOk, false, filter, length, map, not, slice_get, slice_index_or, IfErr, IfOk, IfSome};
+ghost use Rattle.std.specs.List.{fold};
 ghost use Rattle.inc_globs.specs.Globs.{fits, pieces};
 ghost use Rattle.inc_args.specs.Views.{seen_question};
 ghost use Rattle.inc_cost.specs.Costs as spec;
 ghost use Rattle.inc_graph.specs.FileSets.{AreFlags};
 ghost use Rattle.inc_lookup.specs.Projects.{found_as, path_at};
-ghost use Rattle.inc_inputs.specs.Ends.{alone, apart, are_ends, asked_ends, end_paths, ends_at, file_path, glob_paths, group_of, grouped_ends, groups_of, is_path_of, named_files, some_ends, some_group, stands_for, word_paths, words_paths};
+ghost use Rattle.inc_inputs.specs.Ends.{alone, apart, are_ends, asked_ends, end_paths, ends_at, file_path, glob_paths, group_of, grouped_ends, groups_of, is_path_of, named_files, some_ends, some_group, stands_for, with_new, word_paths, words_paths};
 ghost use Rattle.inc_inputs.specs.BothNotes.{both_by, both_lines, both_notes, end_notes};
 ghost use Rattle.inc_inputs.specs.BuildReports.{some_lines};
 ghost use Rattle.inc_inputs.specs.HeaderNames.{header_notes, header_path};
@@ -361,7 +362,8 @@ fn first_named(
     Ok(None)
 }
 
-/// The paths that words stand for.
+/// The paths that words stand for, each file once by the first that names it: so memory is bounded by the files and the words, however many
+/// files each word fits.
 pub(crate) fn paths_of<'p>(
     alloc: Global,
     project: &'p Project<'_>,
@@ -371,9 +373,10 @@ pub(crate) fn paths_of<'p>(
     ensures { seen_paths result ≢ Err out_of_memory →
         seen_paths result ≡ words_paths project.now side (map (λ w. w.now) words.now) }
 {
+    let mut taken = vec![in alloc; false; project.count()]?;
     let mut paths = Vec::new(alloc);
     for word in words {
-        match add_word_paths(&mut paths, alloc, project, side, word) {
+        match add_word_paths(&mut paths, &mut taken, alloc, project, side, word) {
             Ok(()) => {}
             Err(failure) => return Err(failure),
         }
@@ -381,20 +384,78 @@ pub(crate) fn paths_of<'p>(
     Ok(paths)
 }
 
-/// Adds the paths that a word of the command line stands for.
+/// Adds the paths that a word of the command line stands for, of files without a flag.
 fn add_word_paths<'p>(
     paths: &mut Vec<&'p [u8]>,
+    taken: &mut Vec<bool>,
     alloc: Global,
     project: &'p Project<'_>,
     side: Side,
     word: &'p str,
 ) -> Result<(), Failure>
+    requires flags { AreFlags (named_files project.now (map (λ p. p.now) paths.old.items)) taken.old.items }
+    requires long { length taken.old.items ≡ length project.now.paths }
     ensures added { OnOk result ((more : List (List ℕ)) × (word_paths project.now side word.entry.now ≡ Ok more)
-        × (map (λ p. p.now) paths.new.items ≡ map (λ p. p.now) paths.old.items ++ more)) }
+        × (map (λ p. p.now) paths.new.items ≡ fold (with_new project.now) (map (λ p. p.now) paths.old.items) more)) }
     ensures fault { IfErr result (λ failure. report_of failure ≢ out_of_memory →
         word_paths project.now side word.entry.now ≡ Err (report_of failure)) }
+    ensures flags { OnOk result (AreFlags (named_files project.now (map (λ p. p.now) paths.new.items)) taken.new.items) }
+    ensures long { OnOk result (length taken.new.items ≡ length project.now.paths) }
 {
-    add_paths(paths, alloc, project, side, word.as_bytes())
+    let mut more = Vec::new(alloc);
+    match add_paths(&mut more, alloc, project, side, word.as_bytes()) {
+        Ok(()) => {
+            add_all_new(paths, taken, alloc, project, &more)?;
+            Ok(())
+        }
+        Err(failure) => Err(failure),
+    }
+}
+
+/// Adds those of some paths that are of files without a flag, or of none.
+fn add_all_new<'p>(
+    paths: &mut Vec<&'p [u8]>,
+    taken: &mut Vec<bool>,
+    alloc: Global,
+    project: &Project<'_>,
+    more: &[&'p [u8]],
+) -> Result<(), AllocError>
+    requires flags { AreFlags (named_files project.now (map (λ p. p.now) paths.old.items)) taken.old.items }
+    requires long { length taken.old.items ≡ length project.now.paths }
+    ensures added { OnOk result (map (λ p. p.now) paths.new.items
+        ≡ fold (with_new project.now) (map (λ p. p.now) paths.old.items) (map (λ p. p.now) more.now)) }
+    ensures flags { OnOk result (AreFlags (named_files project.now (map (λ p. p.now) paths.new.items)) taken.new.items) }
+    ensures long { OnOk result (length taken.new.items ≡ length project.now.paths) }
+{
+    for path in more {
+        add_new(paths, taken, alloc, project, path)?;
+    }
+    Ok(())
+}
+
+/// Adds a path, unless it is that of a file with a flag, and flags its file.
+fn add_new<'p>(
+    paths: &mut Vec<&'p [u8]>,
+    taken: &mut Vec<bool>,
+    alloc: Global,
+    project: &Project<'_>,
+    path: &'p [u8],
+) -> Result<(), AllocError>
+    requires flags { AreFlags (named_files project.now (map (λ p. p.now) paths.old.items)) taken.old.items }
+    requires long { length taken.old.items ≡ length project.now.paths }
+    ensures added { OnOk result (map (λ p. p.now) paths.new.items
+        ≡ with_new project.now (map (λ p. p.now) paths.old.items) path.entry.now) }
+    ensures flags { OnOk result (AreFlags (named_files project.now (map (λ p. p.now) paths.new.items)) taken.new.items) }
+    ensures long { OnOk result (length taken.new.items ≡ length project.now.paths) }
+{
+    if let Some(file) = file_at(alloc, project, path)? {
+        if has_flag(taken, file) {
+            return Ok(());
+        }
+        taken[file.index()] = true;
+    }
+    paths.push(path)?;
+    Ok(())
 }
 
 /// Adds the paths that a word stands for.

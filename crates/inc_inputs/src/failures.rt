@@ -84,6 +84,12 @@ pub enum Failure {
     TwoLanguages,
     /// The files are listed, and are to be found below folders.
     TwoLists,
+    /// A word names the list of the files, and others files that are left out.
+    ListAndGlobs,
+    /// A compilation database is named, and a compiler's command stands after `--`.
+    TwoBuilds,
+    /// A compiler's command names no source.
+    NoCommandSource,
     /// The words name no source and header, or name them in two ways.
     NoEnds,
     /// The words name no header, or name headers in two ways.
@@ -466,6 +472,9 @@ impl Failure {
             Failure::NoScanFormat => (b"--format of scan is text, gcc or json", b""),
             Failure::TwoLanguages => (b"--extended and --gnu exclude each other", b""),
             Failure::TwoLists => (b"--files and --root exclude each other", b""),
+            Failure::ListAndGlobs => (b"--files and --exclude exclude each other", b""),
+            Failure::TwoBuilds => (b"-p and -- exclude each other", b""),
+            Failure::NoCommandSource => (b"-- names no source", b""),
             Failure::NoEnds => (b"name SOURCE and HEADER, or give --from and --to", b""),
             Failure::NoHeaders => (b"name HEADER, or give --to", b""),
             Failure::BadGlob(text)
@@ -503,6 +512,9 @@ impl Failure {
             | Failure::NoScanFormat
             | Failure::TwoLanguages
             | Failure::TwoLists
+            | Failure::ListAndGlobs
+            | Failure::TwoBuilds
+            | Failure::NoCommandSource
             | Failure::NoEnds
             | Failure::NoHeaders
             | Failure::BadGlob(_)

@@ -1,5 +1,5 @@
 //! What a run reads, and the files that it writes.
-ghost use Rattle.std.specs.Prelude.{◌≡◌, ◌≤◌, ℕ, Bool, List, Option, Result, Some, vec_len, is_ok, IfOk};
+ghost use Rattle.std.specs.Prelude.{◌≡◌, ◌≤◌, ℕ, Bool, List, Option, Result, Some, map, vec_len, is_ok, IfOk};
 ghost use Rattle.inc_text.specs.declared.devices.TheConstants.{LONGEST_FILE};
 ghost use Rattle.inc_text.specs.declared.devices.ReadFault.{ReadFault};
 ghost use Rattle.inc_lookup.specs.Views.{seen_answer};
@@ -16,8 +16,9 @@ pub trait Inputs: Drop {
     // what is read piece by piece, for the input that a word names
     ghost opens: { Self → List ℕ → Self.Stream → Type 0 };
 
-    // whether links are followed on the way to the files of the list is set, and that leads from one state to another
-    ghost begins: { Self → Bool → Self → Type 0 };
+    // it is set whether links are followed on the way to the files of the list, and whether notes are turned off, and that leads from one
+    // state to another
+    ghost begins: { Self → (follows quiet : Bool) → Self → Type 0 };
 
     // a text that is to be the file of a name is written whole, or not, and that leads from one state to another
     ghost puts: { Self → (name text : List ℕ) → (whole : Bool) → Self → Type 0 };
@@ -25,9 +26,9 @@ pub trait Inputs: Drop {
     /// What is read piece by piece.
     type Stream: ByteSource + Drop;
 
-    /// Sets whether links are followed on the way to the files of the list, before any of them is read.
-    fn begin(&mut self, follows: bool)
-        ensures { begins self.old follows self.new };
+    /// Sets whether links are followed on the way to the files of the list, and whether notes are turned off, before any file is read.
+    fn begin(&mut self, follows: bool, is_quiet: bool)
+        ensures { begins self.old follows is_quiet self.new };
 
     /// The bytes of the file of the project at this path of the list: at most 16,777,216.
     fn read_listed(&mut self, alloc: Global, path: &[u8]) -> Result<Vec<u8>, ReadFault>
@@ -44,9 +45,15 @@ pub trait Inputs: Drop {
         ensures gives { gives self.old StandardInput (seen_answer result) self.new }
         ensures short { IfOk result (λ bytes. vec_len bytes ≤ LONGEST_FILE) };
 
-    /// The paths of the files of C below a folder, each ended by NUL. Which these are the inputs say.
-    fn list_files(&mut self, alloc: Global, folder: &str) -> Result<Vec<u8>, ReadFault>
-        ensures { gives self.old (FilesBelow folder.now) (seen_answer result) self.new };
+    /// The paths of the files of C below a folder, each ended by NUL, but for those that one of the globs fits (`Excluded`). Which these are
+    /// the inputs say.
+    fn list_files(
+        &mut self,
+        alloc: Global,
+        folder: &str,
+        exclude: &[&str],
+    ) -> Result<Vec<u8>, ReadFault>
+        ensures { gives self.old (FilesBelow folder.now (map (λ g. g.now) exclude.now)) (seen_answer result) self.new };
 
     /// The bytes of the file at a path that a word is, however many these are, so that memory alone bounds them: a
     /// compilation database may be longer than source files.

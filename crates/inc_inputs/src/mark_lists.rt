@@ -1,14 +1,12 @@
 //! Lists of directives, as the answers, `grep -n` and compilers print them.
-ghost use Rattle.std.specs.Prelude.{◌≡◌, ◌≤◌, ◌<◌, ◌==◌, ◌&&◌, ℕ, Ok, Err, None, take, drop, length, position, slice_index, nat_lt, IfOk, IfErr, IfSome, codes};
-ghost use Rattle.std.specs.Char.{is_ascii_digit};
-ghost use Rattle.std.specs.List.{prefix_len};
-ghost use Rattle.inc_check.specs.Reading.{mark_with, number_in};
+ghost use Rattle.std.specs.Prelude.{◌≡◌, ◌==◌, ℕ, Ok, Err, None, take, drop, length, position, IfOk, IfErr, codes};
+ghost use Rattle.inc_check.specs.Reading.{front_digits, listed_mark, mark_with, number_in, placed_mark};
 ghost use Rattle.inc_check.specs.declared.read_texts.CertFault.TheVariants as fault;
-ghost use Rattle.inc_inputs.specs.MarkLists.{begins_number, first_line, first_marks, front_digits, lines_of, listed_mark, marks_from, marks_in, place_from, placed_mark};
-ghost use Rattle.inc_text.specs.Ascii.{colon, line_feed};
+ghost use Rattle.inc_inputs.specs.MarkLists.{first_line, first_marks, lines_of, marks_from, marks_in};
+ghost use Rattle.inc_text.specs.Ascii.{line_feed};
 
 use crate::file_lists::first_end;
-use inc_check::{CertFault, mark_in, number_behind, number_in};
+use inc_check::{CertFault, digits_len, mark_in, number_behind, number_in, place_in};
 use inc_graph::Mark;
 use std::alloc::{AllocError, Global};
 
@@ -106,44 +104,4 @@ fn placed_mark(alloc: Global, line: &[u8]) -> Result<Option<Mark>, AllocError>
         return Ok(None);
     };
     Mark::copied(alloc, &line[..at], number)
-}
-
-/// Where the first `:DIGITS:` of a line is. A byte is looked at three times at most, whatever the line holds: digits behind a colon end
-/// before the next one, so that each is counted once, and searched once for a colon.
-fn place_in(line: &[u8]) -> Option<usize>
-    ensures is { result ≡ place_from 0 line.now }
-    ensures within { IfSome result (λ at. at < length line.now) }
-{
-    let mut at = 0;
-    while let Some(colon) = first_end(&line[at..], b':') {
-        let place = at + colon;
-        if begins_number(&line[place + 1..]) {
-            return Some(place);
-        }
-        at = place + 1;
-    }
-    None
-}
-
-/// Whether a text begins with one or more digits and a colon.
-fn begins_number(text: &[u8]) -> bool
-    ensures { result ≡ begins_number text.now }
-{
-    let digits = digits_len(text);
-    digits > 0 && has_colon_at(text, digits)
-}
-
-/// Whether a colon is here.
-fn has_colon_at(text: &[u8], at: usize) -> bool
-    ensures { result ≡ (slice_index text.now at == colon) }
-{
-    at < text.len() && text[at] == b':'
-}
-
-/// How many digits a text begins with.
-pub(crate) fn digits_len(text: &[u8]) -> usize
-    ensures is { result ≡ prefix_len is_ascii_digit text.now }
-    ensures within { result ≤ length text.now }
-{
-    text.iter().take_while(|b| b.is_ascii_digit()).count()
 }

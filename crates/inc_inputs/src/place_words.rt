@@ -3,11 +3,11 @@ ghost use Rattle.std.specs.Prelude.{◌≡◌, ◌<◌, ◌≤◌, ◌==◌, ◌
 ghost use Rattle.std.specs.Char.{is_ascii_digit};
 ghost use Rattle.std.specs.List.{prefix_len};
 ghost use Rattle.inc_text.specs.Ascii.{close_parenthesis, open_parenthesis};
-ghost use Rattle.inc_inputs.specs.MarkLists.{colon_from};
+ghost use Rattle.inc_check.specs.Reading.{colon_from};
 ghost use Rattle.inc_inputs.specs.PlaceWords.{is_between, is_call, is_end, is_name, is_name_byte, is_number, is_space, line_colon, name_colon, unspaced};
 
 use crate::file_lists::first_end;
-use crate::mark_lists::digits_len;
+use inc_check::digits_len;
 
 /// What is behind the colon in a word for a place.
 #[derive(Clone, Copy)]

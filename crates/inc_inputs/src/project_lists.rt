@@ -31,7 +31,7 @@ fn path_end_of(is_null: bool) -> PathEnd
     }
 }
 
-/// The list: what a word names, or the files below folders; both exclude each other.
+/// The list: what a word names, or the files below folders but those that are left out; the first goes with neither folders nor globs.
 pub(crate) fn read_list<I: Inputs>(
     alloc: Global,
     inputs: &mut I,
@@ -41,8 +41,9 @@ pub(crate) fn read_list<I: Inputs>(
 {
     match files.list {
         Some(_) if !files.roots.is_empty() => Err(Failure::TwoLists),
+        Some(_) if !files.exclude.is_empty() => Err(Failure::ListAndGlobs),
         Some(name) => read_text(alloc, inputs, name),
-        None => list_or_here(alloc, inputs, &files.roots),
+        None => list_or_here(alloc, inputs, &files.exclude, &files.roots),
     }
 }
 
@@ -50,27 +51,29 @@ pub(crate) fn read_list<I: Inputs>(
 fn list_or_here<I: Inputs>(
     alloc: Global,
     inputs: &mut I,
+    exclude: &[&str],
     folders: &[&str],
 ) -> Result<Vec<u8>, Failure>
-    ensures { Comes (files_below I.gives (or_here (map (λ f. f.now) folders.now))) inputs.old (seen_text result) inputs.new }
+    ensures { Comes (files_below I.gives (map (λ g. g.now) exclude.now) (or_here (map (λ f. f.now) folders.now))) inputs.old (seen_text result) inputs.new }
 {
     if folders.is_empty() {
-        return list_below(alloc, inputs, &["."]);
+        return list_below(alloc, inputs, exclude, &["."]);
     }
-    list_below(alloc, inputs, folders)
+    list_below(alloc, inputs, exclude, folders)
 }
 
 /// The files below folders, one folder after the other.
 fn list_below<I: Inputs>(
     alloc: Global,
     inputs: &mut I,
+    exclude: &[&str],
     folders: &[&str],
 ) -> Result<Vec<u8>, Failure>
-    ensures { Comes (files_below I.gives (map (λ f. f.now) folders.now)) inputs.old (seen_text result) inputs.new }
+    ensures { Comes (files_below I.gives (map (λ g. g.now) exclude.now) (map (λ f. f.now) folders.now)) inputs.old (seen_text result) inputs.new }
 {
     let mut list = Vec::new(alloc);
     for folder in folders {
-        list = with_folder(alloc, inputs, folder, list)?;
+        list = with_folder(alloc, inputs, exclude, folder, list)?;
     }
     Ok(list)
 }
@@ -79,26 +82,28 @@ fn list_below<I: Inputs>(
 fn with_folder<I: Inputs>(
     alloc: Global,
     inputs: &mut I,
+    exclude: &[&str],
     folder: &str,
     known: Vec<u8>,
 ) -> Result<Vec<u8>, Failure>
-    ensures { Comes (with_folder I.gives folder.now known.items) inputs.old (seen_text result) inputs.new }
+    ensures { Comes (with_folder I.gives (map (λ g. g.now) exclude.now) folder.now known.items) inputs.old (seen_text result) inputs.new }
 {
     let mut list = known;
-    let more = list_folder(alloc, inputs, folder)?;
+    let more = list_folder(alloc, inputs, exclude, folder)?;
     list.extend_from_slice(&more)?;
     Ok(list)
 }
 
-/// The files below a folder.
+/// The files below a folder but those that are left out.
 pub(crate) fn list_folder<I: Inputs>(
     alloc: Global,
     inputs: &mut I,
+    exclude: &[&str],
     folder: &str,
 ) -> Result<Vec<u8>, Failure>
-    ensures { Comes (reads_as I.gives folder.now (FilesBelow folder.now)) inputs.old (seen_text result) inputs.new }
+    ensures { Comes (reads_as I.gives folder.now (FilesBelow folder.now (map (λ g. g.now) exclude.now))) inputs.old (seen_text result) inputs.new }
 {
-    match inputs.list_files(alloc, folder) {
+    match inputs.list_files(alloc, folder, exclude) {
         Ok(list) => Ok(list),
         Err(fault) => Err(read_failure(alloc, fault, folder.as_bytes())?),
     }

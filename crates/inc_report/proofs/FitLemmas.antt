@@ -19,8 +19,10 @@ use Rattle.inc_graph.proofs.NumberedEdges.{numbered_from-at}
 use Rattle.inc_graph.proofs.Walks.{chain-within}
 use Rattle.inc_check.specs.Certificates.{edge_mark, marks_of, chain_marks, certificate_of}
 use Rattle.inc_check.specs.declared.certificates.CountedMarks.{CountedMarks}
-use Rattle.inc_check.specs.Texts.{greatest_number, is_small_mark, is_short_mark, is_small_list, is_small_chain, certificate_text, IsCertificateText}
+use Rattle.inc_check.specs.CertificateText.{IsCertificateText}
+use Rattle.inc_check.specs.Texts.{greatest_number, is_small_mark, is_short_mark, is_small_list, is_small_chain, certificate_text}
 use Rattle.inc_check.proofs.AcceptedCuts.{all_editable-within}
+use Rattle.inc_check.proofs.CertificateTexts.{printed_is_text}
 use Rattle.inc_check.proofs.SumLemmas.{chain_once}
 use Rattle.inc_graph.proofs.Fewness.{few_within}
 use Rattle.inc_report.specs.Fitting.{is_fit_chain, IsFit}
@@ -102,9 +104,8 @@ module _ (layout : Layout) (g : Graph) (sound : IsSound g) where
       let sized = sound.sized in
       let long = length-map chains (chain_marks layout g) in
       let low : length (map (chain_marks layout g) chains) ≤ greatest_number = omega arith in
-      record {
-        same = refl;
+      printed_is_text (certificate_of layout g set chains) (record {
         cut = short_list set separates.once within fit.marks;
         chains = small_chains chains shown.real fit.counted;
         few = le-leb _ greatest_number low;
-      }
+      })

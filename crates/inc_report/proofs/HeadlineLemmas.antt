@@ -19,7 +19,7 @@ use Rattle.inc_check.specs.declared.verdicts.Reason.TheVariants.{NotEditable, Re
 use Rattle.inc_check.specs.declared.verdicts.Verdict.{Verdict}
 use Rattle.inc_check.specs.declared.verdicts.Verdict.TheVariants.{Yes, No}
 use Rattle.inc_check.specs.Certificates.{are_different, certificate_of, edge_numbers, is_counted_chain, is_marked_editable, IsVerdict}
-use Rattle.inc_check.specs.Texts.{IsCertificateText}
+use Rattle.inc_check.specs.CertificateText.{IsCertificateText}
 use Rattle.inc_check.proofs.AcceptedCuts.{cut_is_accepted}
 use Rattle.inc_check.proofs.VerdictLemmas.{yes_is_certificate}
 use Rattle.inc_report.specs.CheckText.{verdict_printed, IsCheckOf}

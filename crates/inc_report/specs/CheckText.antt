@@ -7,7 +7,8 @@ use Rattle.inc_lookup.specs.Projects.{Layout, Listing}
 use Rattle.inc_graph.specs.Cuts.{fixed_by, costs_by}
 use Rattle.inc_graph.specs.IncludeGraph.{Graph}
 use Rattle.inc_check.specs.Certificates.{reason_number, IsVerdict}
-use Rattle.inc_check.specs.Texts.{line_text, CertificateFormat, IsCertificateText, IsMalformed}
+use Rattle.inc_check.specs.CertificateText.{CertificateFormat, IsCertificateText}
+use Rattle.inc_check.specs.Texts.{line_text, IsMalformed}
 use Rattle.inc_check.specs.declared.certificates.Certificate.{Certificate}
 use Rattle.inc_check.specs.declared.verdicts.Reason.{Reason}
 use Rattle.inc_check.specs.declared.verdicts.Reason.TheVariants.{NotEditable, Repeated, StillReached, NotAChain, Shared, Counts}

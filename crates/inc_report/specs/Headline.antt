@@ -11,7 +11,7 @@ use Rattle.inc_graph.specs.Cuts.{fixed_by, costs_by, IsCheapest, IsCostCertifica
 use Rattle.inc_graph.specs.IncludeGraph.{Graph, IsGraphAnswer}
 use Rattle.inc_graph.specs.MarkedEdges.{amounts_by}
 use Rattle.inc_check.specs.Certificates.{marks_of, edge_numbers, chains_of, is_marked_editable, are_different, is_counted_chain}
-use Rattle.inc_check.specs.Texts.{IsCertificateText}
+use Rattle.inc_check.specs.CertificateText.{IsCertificateText}
 use Rattle.inc_check.specs.declared.certificates.Certificate.{Certificate}
 use Rattle.inc_macro.specs.Macros.{is_defined, no_macros, with_words}
 use Rattle.inc_pp.specs.Preprocessing.{Outcome, preprocessing}

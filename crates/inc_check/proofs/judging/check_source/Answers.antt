@@ -3,7 +3,8 @@ use Rattle.std.specs.Prelude.{◌==◌}
 use Rattle.std.proofs.KnownBytes.{Consumes-nil}
 use Rattle.std.proofs.lemmas.Bool.{eqb-true, eqb-false}
 use Rattle.std.proofs.lemmas.List.{nil_from_length}
-use Rattle.inc_check.specs.Texts.{CertificateFormat, IsMalformed}
+use Rattle.inc_check.specs.CertificateText.{CertificateFormat}
+use Rattle.inc_check.specs.Texts.{IsMalformed}
 use Rattle.inc_check.specs.Reading.{start}
 use Rattle.inc_check.proofs.AheadLemmas.{ended_empty, of_front, of_whole, has_read_more, read_piece}
 use Rattle.inc_check.proofs.CertificateTexts.{HasRead, begin_reading, read_line, bad_line_more, bad_end, good_end}

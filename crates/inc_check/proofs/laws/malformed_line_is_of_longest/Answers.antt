@@ -1,4 +1,5 @@
-use Rattle.inc_check.specs.Texts.{MarksFormat, CostsFormat, CertificateFormat}
+use Rattle.inc_check.specs.CertificateText.{CertificateFormat}
+use Rattle.inc_check.specs.Texts.{MarksFormat, CostsFormat}
 use Rattle.inc_check.proofs.Formats.{of_longest}
 use Rattle.inc_check.proofs.laws.malformed_line_is_of_longest.Goals as goal
 

@@ -1,7 +1,8 @@
 use Rattle.std.proofs.Common.{◌≡◌, ◌+◌, ◌-◌, ◌<◌, Bool, true, false, Option, Some, None, length, drop, sym, ap, ◌∙◌, subst, arith}
 use Rattle.std.specs.Prelude.{if◌then◌else◌}
 use Rattle.std.proofs.lemmas.List.{take_rest, drop-drop, length-drop, drop_all}
-use Rattle.inc_check.specs.Texts.{CertificateFormat, IsMalformed}
+use Rattle.inc_check.specs.CertificateText.{CertificateFormat}
+use Rattle.inc_check.specs.Texts.{IsMalformed}
 use Rattle.inc_check.specs.Reading as spec
 use Rattle.inc_check.proofs.CertificateTexts.{HasRead, begin_reading, read_line, bad_line, bad_end, good_end}
 use Rattle.inc_check.proofs.read_texts.read_certificate.Goals as goal

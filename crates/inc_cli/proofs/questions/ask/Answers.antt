@@ -5,7 +5,7 @@ use Rattle.inc_cli.specs.Commands.{has_headers}
 use Rattle.inc_cli.specs.Runs.{asked_named}
 use Rattle.inc_cli.specs.Views.{seen_command}
 use Rattle.inc_inputs.specs.Ends.{are_ends}
-use Rattle.inc_inputs.specs.ExternalNames.{named_report}
+use Rattle.inc_inputs.specs.GlobWords.{named_report}
 use Rattle.inc_inputs.specs.Reports.{no_ends, report_of}
 use Rattle.inc_inputs.specs.Texts.{unless_reported}
 use Rattle.inc_cli.proofs.RunLemmas.{run_not, run_reported, run_unless, run_unreported}

@@ -11,6 +11,6 @@ loop-at-preserved c =
     let at = c.loop-at.at in
     let none : List ℕ × ℕ = ([], 0) in
     let low : at < length entries = search rules in
-    line_more skipped_line entries at none (notes_in c.loop-at.notes) (notes_in c.add_counted.new.notes) low
+    line_more (skipped_line c.args.name.now) entries at none (notes_in c.loop-at.notes) (notes_in c.add_counted.new.notes) low
     (c.in_ok-add_counted.ensures (get_or entries at none) (slice_get-get_or entries at none low))
     ∙ c.loop-at.invariant

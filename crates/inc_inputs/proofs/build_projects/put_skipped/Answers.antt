@@ -8,5 +8,5 @@ pub returns : goal.returns
 returns c =
     c.in_ok-put.ensures
     ∙ ap (λ (t : List ℕ). c.args.notes.now.items ++ t)
-    (ap whole c.in_ok-own.ensures ∙ whole_some (map skipped_line c.in_ok-skipped.skipped.entries)
-    ∙ ap (λ (es : List (List ℕ × ℕ)). some_lines (map skipped_line es)) c.in_ok-skipped.ensures)
+    (ap whole c.in_ok-own.ensures ∙ whole_some (map (skipped_line c.args.ground.now.name.now) c.in_ok-skipped.skipped.entries)
+    ∙ ap (λ (es : List (List ℕ × ℕ)). some_lines (map (skipped_line c.args.ground.now.name.now) es)) c.in_ok-skipped.ensures)

@@ -1,6 +1,6 @@
-use Rattle.inc_inputs.specs.MarkLists.{colon_from}
+use Rattle.inc_check.specs.Reading.{colon_from}
 use Rattle.inc_inputs.specs.PlaceWords.{is_end}
-use Rattle.inc_inputs.proofs.PlaceLemmas.{colon_low, place_found, place_none, place_passed}
+use Rattle.inc_check.proofs.PlaceLemmas.{colon_low, place_found, place_none, place_passed}
 use Rattle.inc_inputs.proofs.place_words.colon_before.Goals as goal
 
 pub returns-then-is_end-clause-is : goal.returns-then-is_end-clause-is

@@ -1,5 +1,5 @@
 use Rattle.std.proofs.Common.{◌≡◌, ◌-◌, ◌≤◌, length, drop}
-use Rattle.inc_inputs.specs.MarkLists.{colon_from}
+use Rattle.inc_check.specs.Reading.{colon_from}
 use Rattle.inc_inputs.specs.PlaceWords.{is_end}
 use Rattle.inc_inputs.proofs.place_words.colon_before.Given as goal
 
