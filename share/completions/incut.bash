@@ -11,7 +11,7 @@ _incut() {
     case $prev in
         -I | --root | --iquote | --isystem | --idirafter) mapfile -t COMPREPLY < <(compgen -d -- "$cur") && return ;;
         -D | -e | --top | --drop | --exclude | --external | --keep | --only | --from | --to | --most-read | --most-output) return ;;
-        --files | --without | --fixed | --costs | --defines | --compiler | --deps | --status) mapfile -t COMPREPLY < <(compgen -f -- "$cur") && return ;;
+        --files | --of | --without | --fixed | --costs | --defines | --compiler | --deps | --status | --baseline | --write-baseline) mapfile -t COMPREPLY < <(compgen -f -- "$cur") && return ;;
     esac
     options="--extended --gnu --help"
     case $command in
@@ -20,8 +20,8 @@ _incut() {
         scan) options+=" --format" ;;
         why) options+=" -p --files --root --exclude --follow --null -0 -I --iquote --isystem --idirafter --without --drop --strict --external --quiet -q --fail-if-reached --format --all --max --undefined --from --to" ;;
         graph) options+=" -p --files --root --exclude --follow --null -0 -I --iquote --isystem --idirafter --without --drop --strict --external --quiet -q --undefined --format --from" ;;
-        cost) options+=" -p --files --root --exclude --follow --null -0 -I --iquote --isystem --idirafter --without --drop --strict --external --quiet -q --undefined --format --top --from --to" ;;
-        rules) options+=" -p --files --root --exclude --follow --null -0 -I --iquote --isystem --idirafter --without --drop --strict --external --quiet -q --undefined --format --baseline -e" ;;
+        cost) options+=" -p --files --root --exclude --follow --null -0 -I --iquote --isystem --idirafter --without --drop --strict --external --quiet -q --undefined --format --top --of --from --to" ;;
+        rules) options+=" -p --files --root --exclude --follow --null -0 -I --iquote --isystem --idirafter --without --drop --strict --external --quiet -q --undefined --format --baseline --write-baseline -e" ;;
         who) options+=" -p --files --root --exclude --follow --null -0 -I --iquote --isystem --idirafter --without --drop --strict --external --quiet -q --fail-if-reached --undefined --from --to --chains --format --max" ;;
         cut) options+=" -p --files --root --exclude --follow --null -0 -I --iquote --isystem --idirafter --without --drop --strict --external --undefined --from --to --fixed --keep --only --costs --quiet -q --blank --patch --format --all --max" ;;
         check) options+=" -p --files --root --exclude --follow --null -0 -I --iquote --isystem --idirafter --without --drop --strict --external --undefined --from --to --fixed --keep --only --costs --quiet -q" ;;

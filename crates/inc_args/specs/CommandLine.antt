@@ -143,6 +143,9 @@ lines = flag (codes "lines")
 abbrev pub top : Rule
 top = option (codes "top")
 
+abbrev pub of : Rule
+of = option (codes "of")
+
 abbrev pub most_read : Rule
 most_read = option (codes "most-read")
 
@@ -170,6 +173,9 @@ rule = repeated 101 (codes "rule")
 
 abbrev pub baseline : Rule
 baseline = option (codes "baseline")
+
+abbrev pub write_baseline : Rule
+write_baseline = option (codes "write-baseline")
 
 abbrev pub undefined : Rule
 undefined = repeated_option (codes "undefined")
@@ -269,11 +275,12 @@ graph_rules = undefined ∷ format ∷ from ∷ []
 
 -- which rules are asked about, in builds that do not define some names, and in which format they are answered
 abbrev pub rule_rules : List Rule
-rule_rules = undefined ∷ format ∷ baseline ∷ rule ∷ rules_file ∷ []
+rule_rules = undefined ∷ format ∷ baseline ∷ write_baseline ∷ rule ∷ rules_file ∷ []
 
--- what includes cost: in builds that do not define some names, in which format and how much is printed, from which sources, and to which groups of headers
+-- what includes cost: in builds that do not define some names, in which format and how much is printed, of which source, or from which sources, and to
+-- which groups of headers
 abbrev pub cost_rules : List Rule
-cost_rules = undefined ∷ format ∷ top ∷ from ∷ to ∷ []
+cost_rules = undefined ∷ format ∷ top ∷ of ∷ from ∷ to ∷ []
 
 abbrev pub scan : App
 scan = command (codes "scan") (extended ∷ gnu ∷ format ∷ path ∷ [])

@@ -97,6 +97,8 @@ pub record RuleWords : Type 0 where
   pub rules : List Text
   -- the file that lists directives that may still break them
   pub baseline : Option Text
+  -- the file that such a list is written to
+  pub written : Option Text
 
 -- a command with what it is asked
 pub data Asked : Type 0 where
@@ -109,7 +111,7 @@ pub data Asked : Type 0 where
   Graph : Question → Format → Asked
   -- about the sources of rules
   Rules : Question → RuleWords → Format → Asked
-  -- about sources and groups of headers: at most so many headers and directives are printed
+  -- about sources and groups of headers, or about one source: at most so many headers and directives are printed
   Cost : Question → (top : Option Text) → Format → Asked
   Cut : Question → Limits → Forms → Asked
   -- and the certificate
@@ -195,6 +197,18 @@ abbrev pub who_in : List Row → (command : List Text) → Question
 who_in rows command =
     record (question_in rows command) { from = or_all (has_build (first_of (codes "build") rows) command) (values_of (codes "from") rows) }
 
+-- the words of --from, or that glob where no word names one source
+abbrev pub or_one : (has_build : Bool) → (source : Option Text) → List Text → List Text
+or_one is_built None words = or_all is_built words
+or_one is_built (Some source) words = words
+
+-- about the source of --of, or about those of --from
+abbrev pub cost_in : List Row → (command : List Text) → Question
+cost_in rows command = record (question_in rows command) {
+  source = first_of (codes "of") rows;
+  from = or_one (has_build (first_of (codes "build") rows) command) (first_of (codes "of") rows) (values_of (codes "from") rows);
+}
+
 -- the words of --from, or the glob of the sources of the build, where there is one and neither such a word nor one for a source
 abbrev pub or_built : (has_build : Bool) → (source : Option Text) → List Text → List Text
 or_built true None words = or_all true words
@@ -206,7 +220,12 @@ ends_in rows command = record (question_in rows command) {
 }
 
 abbrev pub rules_in : List Row → RuleWords
-rules_in rows = record { file = first_of (codes "RULES") rows; rules = values_of (codes "rule") rows; baseline = first_of (codes "baseline") rows }
+rules_in rows = record {
+  file = first_of (codes "RULES") rows;
+  rules = values_of (codes "rule") rows;
+  baseline = first_of (codes "baseline") rows;
+  written = first_of (codes "write-baseline") rows;
+}
 
 abbrev pub limits_in : List Row → Limits
 limits_in rows = record {
@@ -251,7 +270,7 @@ asked_by name rows command =
     if bytes_eq name (codes "who") then Who (who_in rows command) (format_in (codes "chains") rows) else
     if bytes_eq name (codes "graph") then Graph (who_in rows command) (format_in (codes "all") rows) else
     if bytes_eq name (codes "rules") then Rules (ends_in rows command) (rules_in rows) (format_in (codes "all") rows) else
-    if bytes_eq name (codes "cost") then Cost (who_in rows command) (first_of (codes "top") rows) (format_in (codes "all") rows) else
+    if bytes_eq name (codes "cost") then Cost (cost_in rows command) (first_of (codes "top") rows) (format_in (codes "all") rows) else
     if bytes_eq name (codes "cut") then Cut (ends_in rows command) (limits_in rows) (forms_in rows) else
     if bytes_eq name (codes "check") then Check (ends_in rows command) (limits_in rows) (value_of (codes "CERT") rows) else
     if bytes_eq name (codes "pp") then Pp (preprocessing_in rows command) else Scan (first_of (codes "PATH") rows) (first_of (codes "format") rows)

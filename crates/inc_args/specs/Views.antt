@@ -73,7 +73,12 @@ abbrev pub seen_forms : FormArgs → Forms
 seen_forms f = record { is_blank = f.blank; is_patch = f.patch; format = seen_format f.format }
 
 abbrev pub seen_rules : RuleArgs → RuleWords
-seen_rules r = record { file = option_map (λ f. f.now) r.file; rules = map (λ w. w.now) r.rules.items; baseline = option_map (λ b. b.now) r.baseline }
+seen_rules r = record {
+  file = option_map (λ f. f.now) r.file;
+  rules = map (λ w. w.now) r.rules.items;
+  baseline = option_map (λ b. b.now) r.baseline;
+  written = option_map (λ w. w.now) r.written;
+}
 
 abbrev pub seen_languages : LanguageArgs → Languages
 seen_languages l = record { is_extended = l.extended; is_gnu = l.gnu }

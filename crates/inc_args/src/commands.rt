@@ -5,10 +5,10 @@ ghost use Rattle.inc_args.specs.CommandLine as line;
 ghost use Rattle.inc_args.specs.CommandLine.{bound_rules, chain_rules, cost_rules, end_rules, file_rules, form_rules, format_rules, graph_rules, header_rules, incut, limit_rules, list_rules, macro_rules, note_rules, output_rules, reach_rules, rule_rules, search_rules, strict_rules, with_rules, drop_rules};
 
 use crate::help::{
-    ABOUT, ALL_HELP, CHECK_NOTES, COST_NOTES, CUT_NOTES, EXAMPLES, EXTENDED_HELP, FORMAT_HELP,
-    GNU_HELP, GRAPH_NOTES, GROUP_HELP, HEADER_HELP, MAX_HELP, PP_NOTES, RULES_NOTES,
-    SCAN_FORMAT_HELP, SCAN_NOTES, SOURCES_HELP, TO_HELP, UNDEFINED_HELP, VERSION, WHO_NOTES,
-    WHY_NOTES,
+    ABOUT, ALL_HELP, CHECK_NOTES, COST_FORMAT_HELP, COST_NOTES, CUT_NOTES, EXAMPLES, EXTENDED_HELP,
+    FORMAT_HELP, GNU_HELP, GRAPH_NOTES, GROUP_HELP, HEADER_HELP, MAX_HELP, PP_NOTES,
+    RULE_FORMAT_HELP, RULES_NOTES, SCAN_FORMAT_HELP, SCAN_NOTES, SOURCES_HELP, TO_HELP,
+    UNDEFINED_HELP, VERSION, WHO_NOTES, WHY_NOTES,
 };
 use crate::options::{
     files, flag, null, option, optional_word, path, quiet, repeated, repeated_option, single,
@@ -242,17 +242,19 @@ fn with_sources<'a>(alloc: Global, command: Command<'a>) -> Result<Command<'a>, 
         .arg(repeated_option(alloc, "from", "GLOB", SOURCES_HELP))
 }
 
-/// Adds the rules, what may still break them, what no build defines, and the format of the answer.
+/// Adds the rules, what may still break them, where that is written, what no build defines, and the format of the answer.
 fn with_rule_words<'a>(alloc: Global, command: Command<'a>) -> Result<Command<'a>, AllocError>
     ensures { IfOk result (λ c. app_of c ≡ with_rules (app_of command.entry) rule_rules) }
 {
     let rule = "Check RULE, as 'src/*.c must not reach net/**', without RULES (repeatable)";
     let rules = "File with rules, one a line; `-` is standard input";
     let baseline = "Take as removed the directives that FILE names, each by a line PATH:NAME";
+    let written = "Write such a FILE, with the directives that break rules now";
     command
         .arg(repeated_option(alloc, "undefined", "NAME", UNDEFINED_HELP))?
-        .arg(option(alloc, "format", "FORMAT", FORMAT_HELP))?
+        .arg(option(alloc, "format", "FORMAT", RULE_FORMAT_HELP))?
         .arg(option(alloc, "baseline", "FILE", baseline))?
+        .arg(option(alloc, "write-baseline", "FILE", written))?
         .arg(repeated(alloc, 'e', "rule", "RULE", rule))?
         .arg(optional_word(alloc, "RULES", rules))
 }
@@ -263,10 +265,12 @@ fn with_cost_words<'a>(alloc: Global, command: Command<'a>) -> Result<Command<'a
     ensures { IfOk result (λ c. app_of c ≡ with_rules (app_of command.entry) cost_rules) }
 {
     let top = "Print the first N headers and the first N directives [default: 20]";
+    let of = "Print the tree of this source, with what comes in through each file";
     command
         .arg(repeated_option(alloc, "undefined", "NAME", UNDEFINED_HELP))?
-        .arg(option(alloc, "format", "FORMAT", FORMAT_HELP))?
+        .arg(option(alloc, "format", "FORMAT", COST_FORMAT_HELP))?
         .arg(option(alloc, "top", "N", top))?
+        .arg(option(alloc, "of", "SOURCE", of))?
         .arg(repeated_option(alloc, "from", "GLOB", SOURCES_HELP))?
         .arg(repeated_option(alloc, "to", "GLOB", GROUP_HELP))
 }

@@ -30,6 +30,12 @@ pub(crate) const FORMAT_HELP: &str =
 pub(crate) const MAX_HELP: &str =
     "Print at most N chains and N sources, and how many more there are, in the formats text and gcc";
 
+pub(crate) const COST_FORMAT_HELP: &str =
+    "Print the answer as `text`, for scripts, as `gcc`, with words, as `json`, as `dot`, for graphviz, or the trees of the sources as `folded` stacks, for flame graphs [default: gcc on a terminal, else text]";
+
+pub(crate) const RULE_FORMAT_HELP: &str =
+    "Print the answer as `text`, for scripts, as `gcc`, each directive at its file and line, as `json`, as `dot`, for graphviz, or as `sarif`, for code hosts [default: gcc on a terminal, else text]";
+
 pub(crate) const SCAN_FORMAT_HELP: &str =
     "Print the directives as `text`, for scripts, as `gcc`, each at its file and line, or as `json` [default: gcc on a terminal, else text]";
 
@@ -264,7 +270,8 @@ that other lines of their files may change:
   src/ui/list.c:\"../db/pool.h\"
 
 Each rule is checked as though these includes were removed: a rule that holds is one that holds without
-them. A line that names no include is noted, so that it can go.
+them. A line that names no include is noted, so that it can go. --write-baseline FILE writes such a file,
+with all includes that files may not have now, and prints which files lack one that they must have.
 
 Includes inside #if groups always count, whether or not the group would be taken. --without names a
 file with directives to take as removed, one a line, --drop directives of files, and --undefined a
@@ -296,8 +303,21 @@ bring together is the difference of two calls, one with --drop or --without.
 if none of them is read, from how many sources, and in how few includes that can be had. `incut cut` with
 the same --to lists these. There is `blocked` for the last number where includes leave it open.
 
-With --format gcc, the default on a terminal, amounts are printed with words, and each include as it is
-written.
+--of SOURCE prints the tree of one source in place of these, in the order in which its files are read,
+each once:
+
+  cost 41207 1
+  tree 3
+  41207 310 0 src/net.c
+  40897 12311 1 include/net.h
+  ...
+
+Each line has the bytes that come in through a file here, those of the file itself, how deep it is
+included, and its path.
+
+With --format gcc, the default on a terminal, amounts are printed with words, each include as it is
+written, and the files of a tree are indented. --format folded prints the trees of all sources as
+stacks, `src/net.c;include/net.h 12311`, which flamegraph.pl, inferno and speedscope draw.
 
 After them is how many includes name headers that are not found (`missing`), and of how many it is not
 known which file they read (`blocked`): what these might lead to is not counted. `incut graph` lists

@@ -5,7 +5,7 @@ ghost use Rattle.std.specs.String.{string_bytes};
 ghost use Rattle.clap.specs.Words.{all_of, first_of, found_of, rows_of, subcommand_rows_of};
 ghost use Rattle.inc_args.specs.CompilerCommand.{compiler_words, own_words};
 ghost use Rattle.inc_args.specs.Meaning as meaning;
-ghost use Rattle.inc_args.specs.Meaning.{asked_by, ends_in, files_in, format_in, forms_in, is_given_in, languages_in, limits_in, meaning, meaning_of, preprocessing_in, question_in, rules_in, value_of, values_of, who_in};
+ghost use Rattle.inc_args.specs.Meaning.{asked_by, cost_in, ends_in, files_in, format_in, forms_in, is_given_in, languages_in, limits_in, meaning, meaning_of, preprocessing_in, question_in, rules_in, value_of, values_of, who_in};
 ghost use Rattle.inc_args.specs.Refusals.{IsRefusal, refusals};
 ghost use Rattle.inc_args.specs.Views.{seen_arguments, seen_files, seen_format, seen_forms, seen_languages, seen_limits, seen_pp, seen_question, seen_request, seen_rules};
 
@@ -114,7 +114,7 @@ fn read_request<'a>(
             read_format(matches, "all"),
         )),
         "cost" => Ok(Request::Cost(
-            read_who(alloc, matches, compiler)?,
+            read_cost(alloc, matches, compiler)?,
             given(matches, "top"),
             read_format(matches, "all"),
         )),
@@ -229,6 +229,23 @@ fn read_ends<'a>(
     }
 }
 
+/// About the source that a word names, or about others: each source of the build, or each `.c` file of the project, if no word says which.
+fn read_cost<'a>(
+    alloc: Global,
+    matches: &ArgMatches<'a>,
+    compiler: &'a [String],
+) -> Result<QuestionArgs<'a>, AllocError>
+    ensures { IfOk result (λ q. seen_question q ≡ cost_in (rows_of (found_of matches.now)) (map string_bytes compiler.entry.now)) }
+{
+    let source = given(matches, "of");
+    let mut question = match source {
+        Some(_) => read_question(alloc, matches, compiler)?,
+        None => read_who(alloc, matches, compiler)?,
+    };
+    question.source = source;
+    Ok(question)
+}
+
 /// Whether there is a build: a word names one, or it is that of a compiler's command.
 fn has_build(build: Option<&str>, compiler: &[String]) -> bool
     ensures { result ≡ meaning.has_build (option_map (λ b. b.now) build.entry) (map string_bytes compiler.now) }
@@ -250,6 +267,7 @@ fn read_rules<'a>(alloc: Global, matches: &ArgMatches<'a>) -> Result<RuleArgs<'a
         file: given(matches, "RULES"),
         rules: values(alloc, matches, "rule")?,
         baseline: given(matches, "baseline"),
+        written: given(matches, "write-baseline"),
     })
 }
 

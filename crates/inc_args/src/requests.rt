@@ -35,7 +35,7 @@ pub enum Request<'a> {
     Graph(QuestionArgs<'a>, FormatArgs<'a>),
     /// Tell which rules are broken.
     Rules(QuestionArgs<'a>, RuleArgs<'a>, FormatArgs<'a>),
-    /// List the headers and directives that bring most, at most so many of each.
+    /// List the headers and directives that bring most, at most so many of each, or the tree of the source of the question.
     Cost(QuestionArgs<'a>, Option<&'a str>, FormatArgs<'a>),
     /// Find the fewest include directives to remove so that a source no longer includes a header.
     Cut(QuestionArgs<'a>, LimitArgs<'a>, FormArgs<'a>),
@@ -104,6 +104,8 @@ pub struct RuleArgs<'a> {
     pub rules: Vec<&'a str>,
     /// The file that lists directives that may still break them; `-` is standard input.
     pub baseline: Option<&'a str>,
+    /// The file that such a list is written to.
+    pub written: Option<&'a str>,
 }
 
 /// The words of what limits a cut.

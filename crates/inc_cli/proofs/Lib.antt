@@ -7,3 +7,4 @@ pub mod ListedReadings
 pub mod Names
 pub mod PlacedLemmas
 pub mod RunLemmas
+pub mod WrittenLemmas

@@ -37,7 +37,7 @@ of_bytes_all None P Q f (text, h) = (text, f text h)
 module _ {X S : Type 0} (gives : Gives S) (inputs : X → S) (paths : X → List (List ℕ)) (reading : X → ℕ → Result (List ℕ) ReadFault → X → Type 0)
     (follow : Follow gives inputs paths reading) where
   -- a question is answered
-  pub prints : (old new : X) (layout : Layout) (q : Question) (P : Printed → Type 0) (Q : S → Printed → Type 0) (out : Output) (result : Result End RunFault)
+  abbrev pub prints : (old new : X) (layout : Layout) (q : Question) (P : Printed → Type 0) (Q : S → Printed → Type 0) (out : Output) (result : Result End RunFault)
       → ((p : Printed) → P p → Q (inputs new) p) → Writes P out.before out.after out.failed result
       → IfErr result (λ fault. IfSome (unread_of fault) (FailsAt reading old new layout q))
       → Prints Q (λ s. FailsAt (listed gives (paths old)) (inputs old) s layout q) out result

@@ -26,7 +26,7 @@ abbrev pub reading : {S T : Type 0} → Gives S → ListedFiles S T → ℕ → 
 reading gives old file answer new = (new.paths ≡ old.paths) × listed gives (paths_of old) old.inputs file answer new.inputs
 
 module _ {S T : Type 0} (gives : Gives S) where
-  follow : Follow gives (λ (f : ListedFiles S T). f.inputs) paths_of (reading gives)
+  pub follow : Follow gives (λ (f : ListedFiles S T). f.inputs) paths_of (reading gives)
   follow a b file answer r = (ap (λ (p : Bor (List (Bor (List ℕ)))). map (λ q. q.now) p.now) r.0, r.1)
 
   pub holds : (old new : ListedFiles S T) (layout : Layout) (P : List Given → Listing → Type 0) → HoldsOfGiven (reading gives) old new layout P
@@ -38,7 +38,7 @@ module _ {S T : Type 0} (gives : Gives S) where
   fails_after old new layout file fault P h =
       listing.fails_after gives (λ (f : ListedFiles S T). f.inputs) paths_of (reading gives) follow old new layout file fault P h
 
-  pub prints : (old new : ListedFiles S T) (layout : Layout) (q : Question) (P : Printed → Type 0) (Q : S → Printed → Type 0) (out : Output) (result : Result End RunFault)
+  abbrev pub prints : (old new : ListedFiles S T) (layout : Layout) (q : Question) (P : Printed → Type 0) (Q : S → Printed → Type 0) (out : Output) (result : Result End RunFault)
       → ((p : Printed) → P p → Q new.inputs p) → Writes P out.before out.after out.failed result
       → IfErr result (λ fault. IfSome (unread_of fault) (FailsAt (reading gives) old new layout q))
       → Prints Q (λ s. FailsAt (listed gives (paths_of old)) old.inputs s layout q) out result

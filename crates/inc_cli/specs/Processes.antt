@@ -1,5 +1,5 @@
 -- What a run of the program comes to: the command line, what is read and written, and the exit status.
-use Rattle.std.specs.Prelude.{◌≡◌, ◌≢◌, ℕ, Bool, List, [], Option, Some, None, Result, Ok, Err, true, false, if◌then◌else◌, bytes_eq, codes, is_some, unwrap_or}
+use Rattle.std.specs.Prelude.{◌≡◌, ◌≢◌, ◌&&◌, not, ℕ, Bool, List, [], Option, Some, None, Result, Ok, Err, true, false, if◌then◌else◌, bytes_eq, codes, is_some, unwrap_or}
 use Rattle.std.specs.Io.KnownBytes.{Appends, Keeps}
 use Rattle.clap.specs.Words.{IsAmong, kind_of}
 use Rattle.inc_text.specs.Devices.{AppendsFront}
@@ -16,26 +16,28 @@ use Rattle.inc_report.specs.declared.named.Format.TheVariants.{Gcc, Json, Dot}
 use Rattle.inc_report.specs.declared.scan.ScanForm.{ScanForm}
 use Rattle.inc_report.specs.declared.scan.ScanForm.TheVariants as form
 use Rattle.inc_inputs.specs.RuleLists.{Ruled, rule_name, rules_given}
-use Rattle.inc_cli.specs.Commands.{Blank, Check, Command, Cost, Cut, Graph, Named, Patch, Rules, Who, Why, bounded}
+use Rattle.inc_cli.specs.Commands.{Blank, Check, Command, Cost, Cut, Folded, Graph, Named, Patch, Tree, Who, Why, bounded, ruled_command}
 use Rattle.inc_cli.specs.Languages.{language_of}
 use Rattle.inc_cli.specs.Notes.{notes_if}
 use Rattle.inc_cli.specs.Outputs.{Answer, Following, Follows, IsRun, Output}
 use Rattle.inc_cli.specs.Preprocessings.{IsPreprocessed, pp_of}
 use Rattle.inc_cli.specs.Questions.{IsAsked, Known, Content, Promise, Opens}
-use Rattle.inc_inputs.specs.Ends.{are_ends}
-use Rattle.inc_inputs.specs.Reports.{Report, format_of_files, no_format, no_headers, no_most, no_scan_format, no_top, report_line, two_forms}
+use Rattle.inc_inputs.specs.Ends.{are_ends, is_empty}
+use Rattle.inc_inputs.specs.Reports.{Report, folded_alone, format_of_files, no_format, no_headers, no_most, no_scan_format, no_top, of_alone, report_line, two_forms}
 use Rattle.inc_cli.specs.Runs.{asked_of, no_limits}
 use Rattle.inc_cli.specs.Scans.{IsScan}
 use Rattle.inc_cli.specs.Statuses.{status_of}
 use Rattle.inc_cli.specs.declared.runs.Ended.{Ended}
+use Rattle.inc_cli.specs.declared.commands.RuleForm.{RuleForm}
+use Rattle.inc_cli.specs.declared.commands.RuleForm.TheVariants as rule_form
 use Rattle.inc_cli.specs.declared.runs.Ended.TheVariants.{Status, Usage}
 
 ---- the answer
 
 -- the words of a question are asked with a command
-abbrev pub IsAskedBy : {S T : Type 0} → Known → Gives S → Opens S T → Language → Command → args.Question → args.Limits → (old : S) → Output
+abbrev pub IsAskedBy : {S T : Type 0} → Known → Gives S → Puts S → Opens S T → Language → Command → args.Question → args.Limits → (old : S) → Output
     → Result Answer Report → Type 0
-IsAskedBy known gives o language command q l = IsAsked gives o command (asked_of gives language command q l) known
+IsAskedBy known gives puts o language command q l = IsAsked gives puts o command (asked_of gives language command q l) known
 
 -- the format with this name in which directives stand as they are written
 abbrev pub format_named : (name : List ℕ) → Option Format
@@ -125,38 +127,77 @@ abbrev pub cost_by : Result ℕ Report → Result (Option Format) Report → Res
 cost_by (Err report) format = Err report
 cost_by (Ok top) format = costs_in top format
 
-abbrev pub cost_of : (is_terminal : Bool) → (name top : Option (List ℕ)) → Result Command Report
-cost_of is_terminal name top = cost_by (top_by top) (rules_format is_terminal name)
+-- the format is that of stacks
+abbrev pub is_folded : (name : Option (List ℕ)) → Bool
+is_folded name = bytes_eq (unwrap_or name []) (codes "folded")
+
+-- the trees of sources as stacks, where nothing says how much is printed
+abbrev pub folded_of : args.Question → (top : Option (List ℕ)) → Result Command Report
+folded_of q top = if is_empty q.to && not (is_some top) then Ok Folded else Err folded_alone
+
+-- the tree of one source, in a format
+abbrev pub trees_in : Result (Option Format) Report → Result Command Report
+trees_in (Err report) = Err report
+trees_in (Ok format) = Ok (Tree format)
+
+abbrev pub tree_by : (is_terminal : Bool) → (name : Option (List ℕ)) → Result Command Report
+tree_by is_terminal name = if is_folded name then Ok Folded else trees_in (rules_format is_terminal name)
+
+-- where nothing else says of what it is told
+abbrev pub tree_of : (is_terminal : Bool) → args.Question → (name top : Option (List ℕ)) → Result Command Report
+tree_of is_terminal q name top = if is_empty q.from && is_empty q.to && not (is_some top) then tree_by is_terminal name else Err of_alone
+
+abbrev pub cost_of : (is_terminal : Bool) → args.Question → (name top : Option (List ℕ)) → Result Command Report
+cost_of is_terminal q name top =
+    if is_some q.source then tree_of is_terminal q name top
+    else if is_folded name then folded_of q top else cost_by (top_by top) (rules_format is_terminal name)
+
+-- the form of this name in which rules are printed
+abbrev pub form_with : Option Format → RuleForm
+form_with None = rule_form.Lines
+form_with (Some format) = rule_form.In format
+
+abbrev pub formed : Result (Option Format) Report → Result RuleForm Report
+formed (Err report) = Err report
+formed (Ok format) = Ok (form_with format)
+
+-- SARIF tells what breaks rules, so no baseline is written beside it
+abbrev pub is_sarif : (name written : Option (List ℕ)) → Bool
+is_sarif name written = bytes_eq (unwrap_or name []) (codes "sarif") && not (is_some written)
+
+abbrev pub rule_form_of : (is_terminal : Bool) → (name written : Option (List ℕ)) → Result RuleForm Report
+rule_form_of is_terminal name written = if is_sarif name written then Ok rule_form.Sarif else formed (rules_format is_terminal name)
 
 -- once it is known, and the rules and what may still break them are
-abbrev pub IsRuledBy : {S T : Type 0} → Gives S → Opens S T → Language → args.Question → args.Limits → (name : List ℕ) → (format : Option Format) → Following S Ruled
-IsRuledBy gives o language q l name format r = IsAskedBy Content gives o language (Rules format (record { name = name; rules = r.rules }) r.baseline) q l
+abbrev pub IsRuledBy : {S T : Type 0} → Gives S → Puts S → Opens S T → Language → args.Question → args.Limits → args.RuleWords → RuleForm → Following S Ruled
+IsRuledBy gives puts o language q l w f r =
+    IsAskedBy Content gives puts o language (ruled_command f (record { name = rule_name w; rules = r.rules }) r.baseline w.written) q l
 
 -- what words ask for is answered
 abbrev pub IsAnswerTo : {S T : Type 0} → Gives S → Puts S → Opens S T → Language → (is_terminal : Bool) → args.Asked → (old : S) → Output → Result Answer Report → Type 0
 IsAnswerTo gives puts o language is_terminal (args.Scan path format) old out answer =
     Follows (λ form. IsScan gives language form path) (scan_form is_terminal format) old out answer
 IsAnswerTo gives puts o language is_terminal (args.Why q f) old out answer =
-    Follows (λ command. IsAskedBy Content gives o language command q no_limits) (formatted is_terminal f (Why f.fails None) asked.Why) old out answer
+    Follows (λ command. IsAskedBy Content gives puts o language command q no_limits) (formatted is_terminal f (Why f.fails None) asked.Why) old out answer
 IsAnswerTo gives puts o language is_terminal (args.Who q f) old out answer =
-    Follows (λ command. IsAskedBy Content gives o language command q no_limits) (who_of is_terminal q f) old out answer
+    Follows (λ command. IsAskedBy Content gives puts o language command q no_limits) (who_of is_terminal q f) old out answer
 IsAnswerTo gives puts o language is_terminal (args.Graph q f) old out answer =
-    Follows (λ command. IsAskedBy Content gives o language command q no_limits) (formatted is_terminal f Graph asked.Graph) old out answer
+    Follows (λ command. IsAskedBy Content gives puts o language command q no_limits) (formatted is_terminal f Graph asked.Graph) old out answer
 IsAnswerTo gives puts o language is_terminal (args.Rules q w f) old out answer =
-    Follows (λ format. IsRun (rules_given gives w) (IsRuledBy gives o language q no_limits (rule_name w) format)) (rules_format is_terminal f.name) old out answer
+    Follows (λ form. IsRun (rules_given gives w) (IsRuledBy gives puts o language q no_limits w form)) (rule_form_of is_terminal f.name w.written) old out answer
 IsAnswerTo gives puts o language is_terminal (args.Cost q top f) old out answer =
-    Follows (λ command. IsAskedBy Content gives o language command q no_limits) (cost_of is_terminal f.name top) old out answer
+    Follows (λ command. IsAskedBy Content gives puts o language command q no_limits) (cost_of is_terminal q f.name top) old out answer
 IsAnswerTo gives puts o language is_terminal (args.Cut q l f) old out answer =
-    Follows (λ command. IsAskedBy Content gives o language command q l) (form_of is_terminal f) old out answer
-IsAnswerTo gives puts o language is_terminal (args.Check q l name) old out answer = IsAskedBy Content gives o language (Check name) q l old out answer
+    Follows (λ command. IsAskedBy Content gives puts o language command q l) (form_of is_terminal f) old out answer
+IsAnswerTo gives puts o language is_terminal (args.Check q l name) old out answer = IsAskedBy Content gives puts o language (Check name) q l old out answer
 IsAnswerTo gives puts o language is_terminal (args.Pp p) old out answer = IsRun (pp_of gives language p) (IsPreprocessed gives puts p) old out answer
 
 -- a cut that is printed, and a certificate that is accepted, keep what they promise
-abbrev pub IsPromiseOf : {S T : Type 0} → Gives S → Opens S T → Language → (is_terminal : Bool) → args.Asked → (old : S) → Output → Result Answer Report → Type 0
-IsPromiseOf gives o language is_terminal (args.Cut q l f) old out answer =
-    Follows (λ command. IsAskedBy Promise gives o language command q l) (form_of is_terminal f) old out answer
-IsPromiseOf gives o language is_terminal (args.Check q l name) old out answer = IsAskedBy Promise gives o language (Check name) q l old out answer
-IsPromiseOf gives o language is_terminal what old out answer = Unit {0}
+abbrev pub IsPromiseOf : {S T : Type 0} → Gives S → Puts S → Opens S T → Language → (is_terminal : Bool) → args.Asked → (old : S) → Output → Result Answer Report → Type 0
+IsPromiseOf gives puts o language is_terminal (args.Cut q l f) old out answer =
+    Follows (λ command. IsAskedBy Promise gives puts o language command q l) (form_of is_terminal f) old out answer
+IsPromiseOf gives puts o language is_terminal (args.Check q l name) old out answer = IsAskedBy Promise gives puts o language (Check name) q l old out answer
+IsPromiseOf gives puts o language is_terminal what old out answer = Unit {0}
 
 ---- the end
 
@@ -192,14 +233,14 @@ abbrev pub IsAnswerFrom : {S T : Type 0} → Gives S → Puts S → Opens S T �
 IsAnswerFrom gives puts o is_terminal m old out answer =
     Follows (λ language. IsAnswerTo gives puts o language is_terminal m.asked) (language_of m.languages) old out answer
 
-abbrev pub IsPromiseFrom : {S T : Type 0} → Gives S → Opens S T → (is_terminal : Bool) → Meaning → (old : S) → Output → Result Answer Report → Type 0
-IsPromiseFrom gives o is_terminal m old out answer = Follows (λ language. IsPromiseOf gives o language is_terminal m.asked) (language_of m.languages) old out answer
+abbrev pub IsPromiseFrom : {S T : Type 0} → Gives S → Puts S → Opens S T → (is_terminal : Bool) → Meaning → (old : S) → Output → Result Answer Report → Type 0
+IsPromiseFrom gives puts o is_terminal m old out answer = Follows (λ language. IsPromiseOf gives puts o language is_terminal m.asked) (language_of m.languages) old out answer
 
 -- that is set first
 abbrev pub IsAnswer : {S T : Type 0} → Begins S → Gives S → Puts S → Opens S T → (is_terminal : Bool) → Meaning → (old : S) → Output → Result Answer Report → Type 0
 IsAnswer {S} begins gives puts o is_terminal m old out answer =
     (first : S) × begins old m.follows m.is_quiet first × IsAnswerFrom gives puts o is_terminal m first out answer
 
-abbrev pub IsPromise : {S T : Type 0} → Begins S → Gives S → Opens S T → (is_terminal : Bool) → Meaning → (old : S) → Output → Result Answer Report → Type 0
-IsPromise {S} begins gives o is_terminal m old out answer =
-    (first : S) × begins old m.follows m.is_quiet first × IsPromiseFrom gives o is_terminal m first out answer
+abbrev pub IsPromise : {S T : Type 0} → Begins S → Gives S → Puts S → Opens S T → (is_terminal : Bool) → Meaning → (old : S) → Output → Result Answer Report → Type 0
+IsPromise {S} begins gives puts o is_terminal m old out answer =
+    (first : S) × begins old m.follows m.is_quiet first × IsPromiseFrom gives puts o is_terminal m first out answer

@@ -9,7 +9,7 @@ use Rattle.inc_graph.specs.Marks.{Cost as EdgeCost, Mark}
 use Rattle.inc_cost.specs.Costs.{Group}
 use Rattle.inc_inputs.specs.Baselines.{accepted}
 use Rattle.inc_inputs.specs.BothNotes.{end_notes}
-use Rattle.inc_inputs.specs.Ends.{EndPaths, are_ends, asked_ends, grouped_ends}
+use Rattle.inc_inputs.specs.Ends.{EndPaths, are_ends, asked_ends, grouped_ends, tree_ends}
 use Rattle.inc_inputs.specs.IncludePath.{include_path}
 use Rattle.inc_inputs.specs.Inputs.{Gives}
 use Rattle.inc_inputs.specs.ListNotes.{named_layout}
@@ -26,8 +26,9 @@ use Rattle.inc_inputs.specs.BuildSteps.{found_if}
 use Rattle.inc_inputs.specs.HeaderNames.{header_notes}
 use Rattle.inc_inputs.specs.GlobWords.{named_report}
 use Rattle.inc_inputs.specs.RuleNotes.{rule_notes, strict_ends}
+use Rattle.inc_inputs.specs.WrittenBaselines.{named_ends}
 use Rattle.inc_inputs.specs.declared.texts.Firsts.{Firsts}
-use Rattle.inc_cli.specs.Commands.{Command, Cost, Rules, baseline_of, certificate_of, has_headers, headers_of, rules_name}
+use Rattle.inc_cli.specs.Commands.{Command, Cost, Folded, Rules, Tree, WriteBaseline, baseline_of, certificate_of, has_headers, headers_of, rules_name}
 
 -- what a question about a project is asked of
 pub record Asked : Type 0 where
@@ -41,16 +42,23 @@ pub record Asked : Type 0 where
   -- what is noted of a build, of the words and lists, and of the words for headers
   pub notes : List ℕ
 
--- between which files a command is asked: where it is about rules, from those that these are about, and where about costs, to groups
+-- between which files a command is asked: where it is about rules, from those that these are about, where about costs, to groups, and where about
+-- trees, from one source or several
 abbrev pub ends_for : Command → Layout → Question → Result EndPaths Report
-ends_for (Rules format list b) layout q = strict_ends q.is_strict list.name layout list.rules
+ends_for (Rules f list b) layout q = strict_ends q.is_strict list.name layout list.rules
+ends_for (WriteBaseline format list name) layout q = named_ends q.is_strict list.name layout list.rules
 ends_for (Cost format top) layout q = grouped_ends layout q
+ends_for (Tree format) layout q = tree_ends layout q
+ends_for Folded layout q = tree_ends layout q
 ends_for command layout q = asked_ends layout q
 
 -- what is noted of the words that name them
 abbrev pub notes_for : Command → Layout → Question → List ℕ
-notes_for (Rules format list b) layout q = rule_notes list.name layout list.rules
+notes_for (Rules f list b) layout q = rule_notes list.name layout list.rules
+notes_for (WriteBaseline format list name) layout q = rule_notes list.name layout list.rules
 notes_for (Cost format top) layout q = header_notes layout q
+notes_for (Tree format) layout q = header_notes layout q
+notes_for Folded layout q = header_notes layout q
 notes_for command layout q = end_notes layout q
 
 -- the words of a question name no sources and headers, or no directives, for this reason

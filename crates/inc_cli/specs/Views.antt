@@ -15,8 +15,8 @@ use Rattle.inc_cli.specs.Runs.{Asked}
 use Rattle.inc_cli.specs.Runs as runs
 use Rattle.inc_cli.specs.declared.answers.Answer as code
 use Rattle.inc_cli.specs.declared.questions.Built.{Built}
-use Rattle.inc_cli.specs.declared.questions.Command.{Command}
-use Rattle.inc_cli.specs.declared.questions.Command.TheVariants as command
+use Rattle.inc_cli.specs.declared.commands.Command.{Command}
+use Rattle.inc_cli.specs.declared.commands.Command.TheVariants as command
 use Rattle.inc_cli.specs.declared.questions.Opened.{Opened}
 
 abbrev pub answer_in : code.Answer → Answer
@@ -33,8 +33,11 @@ seen_command command.Cut = commands.Cut
 seen_command command.Blank = commands.Blank
 seen_command command.Patch = commands.Patch
 seen_command (command.Named form) = commands.Named form
-seen_command (command.Rules format list b) = commands.Rules format (seen_list list) (baseline_in b)
+seen_command (command.Rules f list b) = commands.Rules f (seen_list list) (baseline_in b)
+seen_command (command.WriteBaseline format list name) = commands.WriteBaseline format (seen_list list) name.now
 seen_command (command.Cost format top) = commands.Cost format top
+seen_command (command.Tree format) = commands.Tree format
+seen_command command.Folded = commands.Folded
 seen_command (command.Check name) = commands.Check name.now
 
 -- what is asked of files with these paths, and of groups of headers, beside these notes

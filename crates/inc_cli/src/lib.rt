@@ -2,7 +2,10 @@
 //! for.
 #![tactic(auto)]
 
+mod answering;
 mod answers;
+mod baselines;
+mod commands;
 mod folders;
 mod hosts;
 mod listed_files;

@@ -10,8 +10,8 @@ ghost use Rattle.inc_inputs.specs.Steps.{Comes, next_of};
 ghost use Rattle.inc_cli.specs.Views.{answer_in, output_of, pp_asked_in, seen_end};
 ghost use Rattle.inc_inputs.specs.Views.{macro_of, pp_texts_in, project_in, seen, seen_pp_texts};
 
+use crate::answering::end_of;
 use crate::answers::Answer;
-use crate::questions::end_of;
 use crate::runs::Setup;
 use inc_args::PpArgs;
 use inc_check::number_in;

@@ -1,11 +1,9 @@
 //! Questions about sources and headers of a project.
-ghost use Rattle.std.specs.Prelude.{◌≡◌, ◌≢◌, ◌&&◌, ◌++◌, not, [], ℕ, List, Err, None, Ok, false, IfErr, IfOk, map, option_map, unwrap_or};
+ghost use Rattle.std.specs.Prelude.{◌≡◌, ◌≢◌, ◌&&◌, ◌++◌, not, [], ℕ, List, Err, None, Ok, false, IfErr, IfOk, map, unwrap_or};
 ghost use Rattle.inc_args.specs.Views.{seen_limits, seen_question};
 ghost use Rattle.inc_inputs.specs.Ends.{are_ends};
-ghost use Rattle.inc_inputs.specs.Inputs.{listed};
-ghost use Rattle.inc_cli.specs.Commands.{baseline_of, bounded, certificate_of, cost_form, details_of, has_headers, headers_of, rules_form, rules_name, rules_of, top_of};
-ghost use Rattle.inc_cli.specs.Outputs.{ended};
-ghost use Rattle.inc_cli.specs.Questions.{IsAnswered, IsAsked, IsKnown, Known, Prints};
+ghost use Rattle.inc_cli.specs.Commands.{baseline_of, has_headers, rules_name};
+ghost use Rattle.inc_cli.specs.Questions.{IsAnswered, IsAsked, IsKnown, Known};
 ghost use Rattle.inc_inputs.specs.Reports.{out_of_memory, report_of};
 ghost use Rattle.inc_cli.specs.Runs.{IsUnplaced, asked_beside, asked_built, asked_by, asked_for, asked_found, asked_listed, asked_marked, asked_named, asked_of, built_by, ends_for, listed_by, notes_for};
 ghost use Rattle.inc_inputs.specs.BuildPlaces.{include_paths_of};
@@ -17,152 +15,29 @@ ghost use Rattle.inc_inputs.specs.Baselines.{accepted};
 ghost use Rattle.inc_inputs.specs.NamedPlaces.{named_places};
 ghost use Rattle.inc_inputs.specs.Steps.{Comes, next_of};
 ghost use Rattle.inc_inputs.specs.Texts.{AreCosts};
-ghost use Rattle.inc_inputs.specs.Views.{added_in, baseline_in, end_paths_in, places_in, project_in, seen_accepted, seen_ends, seen_marked, seen_texts};
+ghost use Rattle.inc_inputs.specs.Views.{added_in, end_paths_in, places_in, project_in, seen_accepted, seen_ends, seen_marked, seen_texts};
 ghost use Rattle.inc_cli.specs.Views.{asked_in, built_in, opened_in, output_of, seen_command, seen_end};
-ghost use Rattle.inc_report.specs.Questions.{FailsAt};
-ghost use Rattle.inc_report.specs.RuleViews.{seen_list};
-ghost use Rattle.inc_report.specs.Writing.{is_of_certificate};
 
+use crate::answering::{answer, end_of};
 use crate::answers::Answer;
-use crate::reports::run_failure;
+use crate::baselines::answer_written;
+use crate::commands::Command;
 use crate::runs::Setup;
 use inc_args::{LimitArgs, QuestionArgs};
 use inc_cost::Group;
 use inc_graph::{Cost, Mark};
 use inc_inputs::{
-    Accepted, Added, Baseline, BuildProject, EndPaths, Failure, Firsts, Hindrance, Inputs, Listed,
+    Accepted, Added, BuildProject, EndPaths, Failure, Firsts, Hindrance, Inputs, Listed,
     ListedFiles, Marked, Places, Texts, accepted_places, are_ends, are_twice, asked_ends,
     asked_places, bytes_of_words, costs_of, find_question, grouped_ends, include_path, list_paths,
-    named_failure, named_places, named_project, other_paths, path_end_in, read_texts,
-    read_texts_beside, read_with, strict_ends, with_question_notes,
+    named_ends, named_failure, named_places, named_project, other_paths, path_end_in, read_texts,
+    read_texts_beside, read_with, strict_ends, tree_ends, with_question_notes,
 };
 use inc_lookup::{IncludePath, NamedPath, Project};
-use inc_report::{
-    Asked, CostWords, Details, End, Format, Limits, NamedForm, Question, RuleList, RunFault,
-    run_blank, run_check, run_cost, run_cut, run_graph, run_named, run_patch, run_rules, run_who,
-    run_why,
-};
+use inc_report::{Limits, Question};
 use inc_text::ByteSink;
 use std::alloc::{AllocError, Global};
 use std::mem::replace;
-
-/// What is asked about sources and headers.
-#[derive(Clone, Copy)]
-pub(crate) enum Command<'a> {
-    /// Why the sources include the headers, by at most so many chains; that they do is a negative answer, or not.
-    Why(bool, Option<usize>),
-    /// Which sources include the headers, with their chains or without, and at most so many of them; that some do is a negative answer, or
-    /// not.
-    Who(bool, bool, Option<usize>),
-    /// Which edges the sources reach, whatever the headers are.
-    Graph,
-    /// Which include directives to remove so that they no longer do.
-    Cut,
-    /// For the files of the cut with its directives blanked.
-    Blank,
-    /// For the diff that removes its directives.
-    Patch,
-    /// Why the sources include the headers, which edges they reach, or which directives to remove, with directives as they are written.
-    Named(NamedForm),
-    /// Which of these rules are broken without the directives of a baseline, as text or with directives as they are written.
-    Rules(Option<Format>, RuleList<'a>, Baseline<'a>),
-    /// What includes cost the sources, as text or with directives as they are written: at most so many headers, and as many directives.
-    Cost(Option<Format>, usize),
-    /// Whether the certificate that this word names shows a smallest cut.
-    Check(&'a str),
-}
-
-impl<'a> Command<'a> {
-    /// The same command with at most so many chains.
-    pub(crate) fn bounded(self, most: Option<usize>) -> Command<'a>
-        ensures { seen_command result ≡ bounded most (seen_command self.entry) }
-    {
-        match self {
-            Command::Why(fails, _) => Command::Why(fails, most),
-            Command::Who(with_chains, fails, _) => Command::Who(with_chains, fails, most),
-            other => other,
-        }
-    }
-
-    /// The word that names the certificate.
-    fn certificate(self) -> Option<&'a str>
-        ensures { option_map (λ n. n.now) result ≡ certificate_of (seen_command self.entry) }
-    {
-        match self {
-            Command::Check(name) => Some(name),
-            _ => None,
-        }
-    }
-
-    /// The rules that it is about; none where it is not about rules.
-    fn rules(self) -> RuleList<'a>
-        ensures { seen_list result ≡ rules_of (seen_command self.entry) }
-    {
-        match self {
-            Command::Rules(_, list, _) => list,
-            _ => RuleList::none(),
-        }
-    }
-
-    /// How much is printed of costs; nothing where it is not about these.
-    fn top(self) -> usize
-        ensures { result ≡ top_of (seen_command self.entry) }
-    {
-        match self {
-            Command::Cost(_, top) => top,
-            _ => 0,
-        }
-    }
-
-    /// What their list is called.
-    fn rules_name(self) -> Option<&'a str>
-        ensures { option_map (λ n. n.now) result ≡ rules_name (seen_command self.entry) }
-    {
-        match self {
-            Command::Rules(_, list, _) => Some(list.name),
-            _ => None,
-        }
-    }
-
-    /// The directives that may still break them.
-    fn baseline(self) -> Baseline<'a>
-        ensures { baseline_in result ≡ baseline_of (seen_command self.entry) }
-    {
-        match self {
-            Command::Rules(_, _, baseline) => baseline,
-            _ => Baseline::none(),
-        }
-    }
-
-    /// The word that names these.
-    fn baseline_name(self) -> Option<&'a str>
-        ensures { option_map (λ n. n.now) result ≡ (baseline_of (seen_command self.entry)).name }
-    {
-        self.baseline().name
-    }
-
-    /// Whether it is about headers, too.
-    fn has_headers(self) -> bool
-        ensures { result ≡ has_headers (seen_command self.entry) }
-    {
-        match self {
-            Command::Graph | Command::Rules(..) | Command::Cost(..) => false,
-            Command::Named(form) => form.asked.has_headers(),
-            _ => true,
-        }
-    }
-
-    /// The paths of the headers, where it is about some.
-    fn headers<'p>(self, to: &'p [&'p [u8]]) -> Option<&'p [&'p [u8]]>
-        ensures { option_map (λ ps. map (λ p. p.now) ps.now) result
-            ≡ headers_of (seen_command self.entry) (map (λ p. p.now) to.entry.now) }
-    {
-        if self.has_headers() {
-            return Some(to);
-        }
-        None
-    }
-}
 
 /// What words ask about sources and headers, and with which limits.
 #[derive(Clone, Copy)]
@@ -201,7 +76,7 @@ pub(crate) fn ask<I: Inputs, O: ByteSink>(
 ) -> (Result<Answer, Failure>, O)
     requires { O.has_failed out ≡ false }
     ensures { (known : Known) → seen_end result.0 ≢ Err out_of_memory →
-        IsAsked I.gives (record { opens = I.opens; left = I.Stream.left }) (seen_command command.entry)
+        IsAsked I.gives I.puts (record { opens = I.opens; left = I.Stream.left }) (seen_command command.entry)
         (asked_of I.gives setup.now.language (seen_command command.entry) (seen_question question.now) (seen_limits limits.now))
         known inputs (output_of (O.written out) (O.written result.1) (O.has_failed result.1)) (seen_end result.0) }
 {
@@ -235,7 +110,7 @@ fn ask_named<I: Inputs, O: ByteSink>(
 ) -> (Result<Answer, Failure>, O)
     requires { O.has_failed out ≡ false }
     ensures { (known : Known) → seen_end result.0 ≢ Err out_of_memory →
-        IsAsked I.gives (record { opens = I.opens; left = I.Stream.left }) (seen_command asking.entry.command)
+        IsAsked I.gives I.puts (record { opens = I.opens; left = I.Stream.left }) (seen_command asking.entry.command)
         (asked_named I.gives setup.now.language (seen_command asking.entry.command) (seen_question asking.entry.question.now) (seen_limits asking.entry.limits.now))
         known inputs (output_of (O.written out) (O.written result.1) (O.has_failed result.1)) (seen_end result.0) }
 {
@@ -273,7 +148,7 @@ fn ask_found<I: Inputs, O: ByteSink>(
 ) -> (Result<Answer, Failure>, O)
     requires { O.has_failed out ≡ false }
     ensures { (known : Known) → seen_end result.0 ≢ Err out_of_memory →
-        IsAsked I.gives (record { opens = I.opens; left = I.Stream.left }) (seen_command asking.entry.command)
+        IsAsked I.gives I.puts (record { opens = I.opens; left = I.Stream.left }) (seen_command asking.entry.command)
         (asked_found I.gives setup.now.language (seen_command asking.entry.command) (seen_question asking.entry.question.now) (seen_limits asking.entry.limits.now) (project_in found))
         known inputs (output_of (O.written out) (O.written result.1) (O.has_failed result.1)) (seen_end result.0) }
 {
@@ -306,7 +181,7 @@ fn ask_read<I: Inputs, O: ByteSink>(
 ) -> (Result<Answer, Failure>, O)
     requires { O.has_failed out ≡ false }
     ensures { (known : Known) → seen_end result.0 ≢ Err out_of_memory →
-        IsAsked I.gives (record { opens = I.opens; left = I.Stream.left }) (seen_command asking.entry.command)
+        IsAsked I.gives I.puts (record { opens = I.opens; left = I.Stream.left }) (seen_command asking.entry.command)
         (next_of (λ t. asked_by I.gives setup.now.language (seen_command asking.entry.command) (seen_question asking.entry.question.now) (seen_limits asking.entry.limits.now) (added_in added) t)
         (seen_texts texts))
         known inputs (output_of (O.written out) (O.written result.1) (O.has_failed result.1)) (seen_end result.0) }
@@ -343,7 +218,7 @@ fn ask_texts<'t, I: Inputs, O: ByteSink>(
 ) -> (Result<Answer, Failure>, O)
     requires { O.has_failed out ≡ false }
     ensures { (known : Known) → seen_end result.0 ≢ Err out_of_memory →
-        IsAsked I.gives (record { opens = I.opens; left = I.Stream.left }) (seen_command asking.entry.command)
+        IsAsked I.gives I.puts (record { opens = I.opens; left = I.Stream.left }) (seen_command asking.entry.command)
         (asked_by I.gives setup.now.language (seen_command asking.entry.command) (seen_question asking.entry.question.now) (seen_limits asking.entry.limits.now) (added_in added)
         (record { list = list.now; fixed = marks.fixed.items; without = marks.without.items; costs = costs.now; firsts = firsts }))
         known inputs (output_of (O.written out) (O.written result.1) (O.has_failed result.1)) (seen_end result.0) }
@@ -374,7 +249,7 @@ fn ask_listed<'p, I: Inputs, O: ByteSink>(
 ) -> (Result<Answer, Failure>, O)
     requires { O.has_failed out ≡ false }
     ensures { (known : Known) → seen_end result.0 ≢ Err out_of_memory →
-        IsAsked I.gives (record { opens = I.opens; left = I.Stream.left }) (seen_command asking.entry.command)
+        IsAsked I.gives I.puts (record { opens = I.opens; left = I.Stream.left }) (seen_command asking.entry.command)
         (asked_listed I.gives setup.now.language (seen_command asking.entry.command) (seen_question asking.entry.question.now) (seen_limits asking.entry.limits.now) (added_in added)
         marks.without.items marks.fixed.items (opened_in opened.entry.now) project.entry.now)
         known inputs (output_of (O.written out) (O.written result.1) (O.has_failed result.1)) (seen_end result.0) }
@@ -490,7 +365,7 @@ fn ask_built<'p, I: Inputs, O: ByteSink>(
 ) -> (Result<Answer, Failure>, O)
     requires { O.has_failed out ≡ false }
     ensures { (known : Known) → seen_end result.0 ≢ Err out_of_memory →
-        IsAsked I.gives (record { opens = I.opens; left = I.Stream.left }) (seen_command asking.entry.command)
+        IsAsked I.gives I.puts (record { opens = I.opens; left = I.Stream.left }) (seen_command asking.entry.command)
         (asked_built I.gives setup.now.language (seen_command asking.entry.command) (seen_question asking.entry.question.now) (seen_limits asking.entry.limits.now)
         marks.without.items marks.fixed.items (opened_in opened.entry.now) project.entry.now (built_in built))
         known inputs (output_of (O.written out) (O.written result.1) (O.has_failed result.1)) (seen_end result.0) }
@@ -515,7 +390,7 @@ fn ask_beside<'p, I: Inputs, O: ByteSink>(
 ) -> (Result<Answer, Failure>, O)
     requires { O.has_failed out ≡ false }
     ensures { (known : Known) → seen_end result.0 ≢ Err out_of_memory →
-        IsAsked I.gives (record { opens = I.opens; left = I.Stream.left }) (seen_command asking.entry.command)
+        IsAsked I.gives I.puts (record { opens = I.opens; left = I.Stream.left }) (seen_command asking.entry.command)
         (asked_beside I.gives setup.now.language (seen_command asking.entry.command) (seen_question asking.entry.question.now) (seen_limits asking.entry.limits.now)
         marks.without.items marks.fixed.items (opened_in opened.entry.now) project.entry.now (built_in built))
         known inputs (output_of (O.written out) (O.written result.1) (O.has_failed result.1)) (seen_end result.0) }
@@ -555,7 +430,7 @@ fn ask_marked<'p, I: Inputs, O: ByteSink>(
 ) -> (Result<Answer, Failure>, O)
     requires { O.has_failed out ≡ false }
     ensures { (known : Known) → seen_end result.0 ≢ Err out_of_memory →
-        IsAsked I.gives (record { opens = I.opens; left = I.Stream.left }) (seen_command asking.entry.command)
+        IsAsked I.gives I.puts (record { opens = I.opens; left = I.Stream.left }) (seen_command asking.entry.command)
         (asked_marked setup.now.language (seen_command asking.entry.command) (seen_question asking.entry.question.now) (seen_limits asking.entry.limits.now)
         marks.without.items marks.fixed.items (opened_in opened.entry.now) project.entry.now (built_in built))
         known inputs (output_of (O.written out) (O.written result.1) (O.has_failed result.1)) (seen_end result.0) }
@@ -641,7 +516,7 @@ fn ask_placed<'p, I: Inputs, O: ByteSink>(
     requires { O.has_failed out ≡ false }
     ensures { (known : Known) → seen_end result.0 ≢ Err out_of_memory →
         let command = seen_command command.entry in
-        IsAnswered I.gives (IsKnown known I.gives (record { opens = I.opens; left = I.Stream.left }) command) command
+        IsAnswered I.gives I.puts (IsKnown known I.gives (record { opens = I.opens; left = I.Stream.left }) command) command
         (asked_for setup.now.language command (opened_in opened.entry.now) project.now (built_in built.entry.now) (end_paths_in placed.entry.now.ends) (places_in placed.entry.now.places)
         (built.entry.now.notes.items ++ placed.entry.now.ends.notes.items))
         inputs (output_of (O.written out) (O.written result.1) (O.has_failed result.1)) (seen_end result.0) }
@@ -695,10 +570,15 @@ fn answer_beside<I: Inputs, O: ByteSink>(
     requires { O.has_failed out ≡ false }
     ensures { (known : Known) → seen_end result.0 ≢ Err out_of_memory →
         let command = seen_command command.entry in
-        IsAnswered I.gives (IsKnown known I.gives (record { opens = I.opens; left = I.Stream.left }) command) command
+        IsAnswered I.gives I.puts (IsKnown known I.gives (record { opens = I.opens; left = I.Stream.left }) command) command
         (asked_in (map (λ p. p.now) paths.now) project.now question.now limits.now groups.now notes.items)
         inputs (output_of (O.written out) (O.written result.1) (O.has_failed result.1)) (seen_end result.0) }
 {
+    if let Command::WriteBaseline(format, list, name) = command {
+        return answer_written(
+            setup, format, list, name, project, question, paths, notes, inputs, out,
+        );
+    }
     let files = ListedFiles { inputs, paths };
     let (ended, out) = answer(
         setup.alloc,
@@ -775,7 +655,12 @@ fn ends_for<'p>(
             let is_strict = question.is_strict;
             strict_ends(alloc, project, is_strict, list.name, list.rules)
         }
+        Command::WriteBaseline(_, list, _) => {
+            let is_strict = question.is_strict;
+            named_ends(alloc, project, is_strict, list.name, list.rules)
+        }
         Command::Cost(..) => grouped_ends(alloc, project, question),
+        Command::Tree(_) | Command::Folded => tree_ends(alloc, project, question),
         _ => asked_ends(alloc, project, question),
     }
 }
@@ -815,159 +700,4 @@ fn open_texts<'t>(
         path,
         firsts,
     })
-}
-
-/// Answers a question of a project whose files are these.
-fn answer<'l, I: Inputs, O: ByteSink>(
-    alloc: Global,
-    command: Command<'l>,
-    project: &Project<'_>,
-    question: &Question<'_>,
-    limits: &'l Limits<'l>,
-    groups: &'l [Group<'l>],
-    files: ListedFiles<'_, I>,
-    out: O,
-) -> (Result<End, RunFault>, O)
-    requires { O.has_failed out ≡ false }
-    ensures printed { (known : Known) (notes : List ℕ) → Prints
-        (λ new p. IsKnown known I.gives (record { opens = I.opens; left = I.Stream.left }) (seen_command command.entry)
-        (asked_in (map (λ p. p.now) files.entry.paths.now) project.now question.now limits.now groups.now notes) files.entry.inputs new p)
-        (λ new. FailsAt (listed I.gives (map (λ p. p.now) files.entry.paths.now)) files.entry.inputs new project.now question.now)
-        (output_of (O.written out) (O.written result.1) (O.has_failed result.1)) result.0 }
-    ensures certificate { certificate_of (seen_command command.entry) ≡ None → IfErr result.0 (λ f. is_of_certificate f ≡ false) }
-{
-    let mut files = files;
-    match command {
-        Command::Why(fails, most) => {
-            run_why(alloc, project, &mut files, question, fails, most, out)
-        }
-        Command::Who(with_chains, fails, most) => run_who(
-            alloc,
-            project,
-            &mut files,
-            question,
-            with_chains,
-            fails,
-            most,
-            out,
-        ),
-        Command::Graph => run_graph(alloc, project, &mut files, question, out),
-        Command::Cut => run_cut(alloc, project, &mut files, question, limits, out),
-        Command::Blank => {
-            let (ended, _, out) = run_blank(alloc, project, files, question, limits, out);
-            (ended, out)
-        }
-        Command::Patch => {
-            let (ended, _, out) = run_patch(alloc, project, files, question, limits, out);
-            (ended, out)
-        }
-        Command::Named(form) => {
-            let details = details_of(command, limits, groups);
-            let (ended, _, out) = run_named(alloc, project, files, question, &details, form, out);
-            (ended, out)
-        }
-        Command::Rules(format, rules, _) => match format {
-            None => run_rules(alloc, project, &mut files, question, rules.rules, out),
-            Some(format) => {
-                let details = details_of(command, limits, groups);
-                let form = rules_form(format);
-                let (ended, _, out) = run_named(
-                    alloc, project, files, question, &details, form, out,
-                );
-                (ended, out)
-            }
-        },
-        Command::Cost(format, top) => match format {
-            None => {
-                let (ended, _, out) = run_cost(alloc, project, files, question, top, groups, out);
-                (ended, out)
-            }
-            Some(format) => {
-                let details = details_of(command, limits, groups);
-                let form = cost_form(format);
-                let (ended, _, out) = run_named(
-                    alloc, project, files, question, &details, form, out,
-                );
-                (ended, out)
-            }
-        },
-        Command::Check(name) => match files.inputs.open(alloc, name) {
-            Ok(stream) => {
-                let mut stream = stream;
-                run_check(
-                    alloc,
-                    project,
-                    &mut files,
-                    question,
-                    limits,
-                    &mut stream,
-                    out,
-                )
-            }
-            Err(_) => (Err(RunFault::NoMemory), out),
-        },
-    }
-}
-
-/// What the answer to a command goes by beside the graph.
-fn details_of<'d>(
-    command: Command<'d>,
-    limits: &'d Limits<'d>,
-    groups: &'d [Group<'d>],
-) -> Details<'d>
-    ensures { result ≡ details_of (seen_command command.entry) limits.entry.now groups.entry.now }
-{
-    let costs = CostWords {
-        most: command.top(),
-        groups,
-    };
-    Details {
-        limits,
-        rules: command.rules(),
-        costs,
-    }
-}
-
-/// Rules in a format.
-fn rules_form(format: Format) -> NamedForm
-    ensures { result ≡ rules_form format }
-{
-    NamedForm {
-        asked: Asked::Rules,
-        format,
-        all: false,
-        fails: false,
-        most: None,
-    }
-}
-
-/// Costs in a format.
-fn cost_form(format: Format) -> NamedForm
-    ensures { result ≡ cost_form format }
-{
-    NamedForm {
-        asked: Asked::Cost,
-        format,
-        all: false,
-        fails: false,
-        most: None,
-    }
-}
-
-/// How a call that prints ended, with what was noted before it, or by what is reported of it and of what stood in the way of a file.
-pub(crate) fn end_of(
-    alloc: Global,
-    ending: Result<End, RunFault>,
-    notes: Vec<u8>,
-    paths: &[&[u8]],
-    certificate: &str,
-    hindrance: Hindrance,
-) -> Result<Answer, Failure>
-    ensures { seen_end result ≢ Err out_of_memory →
-        seen_end result ≡ ended notes.items (map (λ p. p.now) paths.now) certificate.now hindrance ending }
-{
-    match ending {
-        Ok(end) => Ok(Answer { end, notes }),
-        Err(fault) => Err(run_failure(alloc, fault, paths, certificate, hindrance)?),
-    }
 }

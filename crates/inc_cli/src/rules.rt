@@ -1,29 +1,33 @@
 //! Questions about rules.
-ghost use Rattle.std.specs.Prelude.{◌≡◌, ◌≢◌, Err, false, map};
+ghost use Rattle.std.specs.Prelude.{◌≡◌, ◌≢◌, Err, false, map, option_map};
 ghost use Rattle.inc_args.specs.Views.{seen_limits, seen_question, seen_rules};
+ghost use Rattle.inc_cli.specs.Commands.{ruled_command};
 ghost use Rattle.inc_cli.specs.Outputs.{IsRun};
 ghost use Rattle.inc_cli.specs.Processes.{IsRuledBy};
-ghost use Rattle.inc_cli.specs.Views.{output_of, seen_end};
+ghost use Rattle.inc_cli.specs.Views.{output_of, seen_command, seen_end};
 ghost use Rattle.inc_inputs.specs.Reports.{out_of_memory};
-ghost use Rattle.inc_inputs.specs.RuleLists.{rule_name, rule_text, ruled, rules_by, rules_given};
+ghost use Rattle.inc_inputs.specs.RuleLists.{rule_text, ruled, rules_by, rules_given};
 ghost use Rattle.inc_inputs.specs.Steps.{then};
+ghost use Rattle.inc_inputs.specs.Views.{baseline_in};
+ghost use Rattle.inc_report.specs.RuleViews.{seen_list};
 ghost use Rattle.inc_rules.specs.Views.{seen_rule};
 
 use crate::answers::Answer;
-use crate::questions::{Command, ask};
+use crate::commands::{Command, RuleForm};
+use crate::questions::ask;
 use crate::runs::Setup;
 use inc_args::{LimitArgs, QuestionArgs, RuleArgs};
 use inc_inputs::{
-    Baseline, Failure, Inputs, are_twice, read_baseline, read_rule_text, rule_name, rules_in,
+    Baseline, Failure, Inputs, read_baseline, read_rule_text, rule_name, rules_in, words_failure,
 };
-use inc_report::{Format, RuleList};
+use inc_report::RuleList;
 use inc_rules::Rule;
 use inc_text::ByteSink;
 
 /// Reads the rules that words give, and the directives that may still break them, and answers which are broken.
 pub(crate) fn ask_rules<I: Inputs, O: ByteSink>(
     setup: &Setup<'_>,
-    format: Option<Format>,
+    form: RuleForm,
     question: &QuestionArgs<'_>,
     words: &RuleArgs<'_>,
     limits: &LimitArgs<'_>,
@@ -33,20 +37,20 @@ pub(crate) fn ask_rules<I: Inputs, O: ByteSink>(
     requires { O.has_failed out ≡ false }
     ensures { seen_end result.0 ≢ Err out_of_memory →
         IsRun (rules_given I.gives (seen_rules words.now))
-        (IsRuledBy I.gives (record { opens = I.opens; left = I.Stream.left }) setup.now.language (seen_question question.now) (seen_limits limits.now)
-        (rule_name (seen_rules words.now)) format) inputs
+        (IsRuledBy I.gives I.puts (record { opens = I.opens; left = I.Stream.left }) setup.now.language (seen_question question.now) (seen_limits limits.now)
+        (seen_rules words.now) form) inputs
         (output_of (O.written out) (O.written result.1) (O.has_failed result.1)) (seen_end result.0) }
 {
-    if are_twice(&[words.file, words.baseline]) {
-        return (Err(Failure::InputTwice), out);
+    match words_failure(words) {
+        Some(failure) => (Err(failure), out),
+        None => ask_rules_once(setup, form, question, words, limits, inputs, out),
     }
-    ask_rules_once(setup, format, question, words, limits, inputs, out)
 }
 
-/// The same where standard input is named once at most.
+/// The same where nothing is wrong with the words.
 fn ask_rules_once<I: Inputs, O: ByteSink>(
     setup: &Setup<'_>,
-    format: Option<Format>,
+    form: RuleForm,
     question: &QuestionArgs<'_>,
     words: &RuleArgs<'_>,
     limits: &LimitArgs<'_>,
@@ -56,13 +60,13 @@ fn ask_rules_once<I: Inputs, O: ByteSink>(
     requires { O.has_failed out ≡ false }
     ensures { seen_end result.0 ≢ Err out_of_memory →
         IsRun (then (rule_text I.gives (seen_rules words.now)) (λ text. rules_by I.gives (seen_rules words.now) text))
-        (IsRuledBy I.gives (record { opens = I.opens; left = I.Stream.left }) setup.now.language (seen_question question.now) (seen_limits limits.now)
-        (rule_name (seen_rules words.now)) format) inputs
+        (IsRuledBy I.gives I.puts (record { opens = I.opens; left = I.Stream.left }) setup.now.language (seen_question question.now) (seen_limits limits.now)
+        (seen_rules words.now) form) inputs
         (output_of (O.written out) (O.written result.1) (O.has_failed result.1)) (seen_end result.0) }
 {
     let mut inputs = inputs;
     match read_rule_text(setup.alloc, &mut inputs, words) {
-        Ok(text) => ask_rules_of(setup, format, question, words, limits, &text, inputs, out),
+        Ok(text) => ask_rules_of(setup, form, question, words, limits, &text, inputs, out),
         Err(failure) => (Err(failure), out),
     }
 }
@@ -70,7 +74,7 @@ fn ask_rules_once<I: Inputs, O: ByteSink>(
 /// The same of the text of their list.
 fn ask_rules_of<I: Inputs, O: ByteSink>(
     setup: &Setup<'_>,
-    format: Option<Format>,
+    form: RuleForm,
     question: &QuestionArgs<'_>,
     words: &RuleArgs<'_>,
     limits: &LimitArgs<'_>,
@@ -81,12 +85,12 @@ fn ask_rules_of<I: Inputs, O: ByteSink>(
     requires { O.has_failed out ≡ false }
     ensures { seen_end result.0 ≢ Err out_of_memory →
         IsRun (rules_by I.gives (seen_rules words.now) text.now)
-        (IsRuledBy I.gives (record { opens = I.opens; left = I.Stream.left }) setup.now.language (seen_question question.now) (seen_limits limits.now)
-        (rule_name (seen_rules words.now)) format) inputs
+        (IsRuledBy I.gives I.puts (record { opens = I.opens; left = I.Stream.left }) setup.now.language (seen_question question.now) (seen_limits limits.now)
+        (seen_rules words.now) form) inputs
         (output_of (O.written out) (O.written result.1) (O.has_failed result.1)) (seen_end result.0) }
 {
     match rules_in(setup.alloc, text, rule_name(words)) {
-        Ok(rules) => ask_ruled(setup, format, question, words, limits, &rules, inputs, out),
+        Ok(rules) => ask_ruled(setup, form, question, words, limits, &rules, inputs, out),
         Err(failure) => (Err(failure), out),
     }
 }
@@ -94,7 +98,7 @@ fn ask_rules_of<I: Inputs, O: ByteSink>(
 /// The same of rules.
 fn ask_ruled<I: Inputs, O: ByteSink>(
     setup: &Setup<'_>,
-    format: Option<Format>,
+    form: RuleForm,
     question: &QuestionArgs<'_>,
     words: &RuleArgs<'_>,
     limits: &LimitArgs<'_>,
@@ -105,8 +109,8 @@ fn ask_ruled<I: Inputs, O: ByteSink>(
     requires { O.has_failed out ≡ false }
     ensures { seen_end result.0 ≢ Err out_of_memory →
         IsRun (ruled I.gives (seen_rules words.now) (map seen_rule rules.now))
-        (IsRuledBy I.gives (record { opens = I.opens; left = I.Stream.left }) setup.now.language (seen_question question.now) (seen_limits limits.now)
-        (rule_name (seen_rules words.now)) format) inputs
+        (IsRuledBy I.gives I.puts (record { opens = I.opens; left = I.Stream.left }) setup.now.language (seen_question question.now) (seen_limits limits.now)
+        (seen_rules words.now) form) inputs
         (output_of (O.written out) (O.written result.1) (O.has_failed result.1)) (seen_end result.0) }
 {
     let mut inputs = inputs;
@@ -116,9 +120,26 @@ fn ask_ruled<I: Inputs, O: ByteSink>(
             let name = rule_name(words);
             let list = RuleList { name, rules };
             let name = words.baseline;
-            let command = Command::Rules(format, list, Baseline { name, lines });
+            let baseline = Baseline { name, lines };
+            let command = ruled_command(form, list, baseline, words.written);
             ask(setup, command, question, limits, inputs, out)
         }
         Err(failure) => (Err(failure), out),
+    }
+}
+
+/// The command that asks whether rules are broken, or with a word for a file which directives break them.
+fn ruled_command<'a>(
+    form: RuleForm,
+    list: RuleList<'a>,
+    baseline: Baseline<'a>,
+    written: Option<&'a str>,
+) -> Command<'a>
+    ensures { seen_command result
+        ≡ ruled_command form (seen_list list.entry) (baseline_in baseline.entry) (option_map (λ w. w.now) written.entry) }
+{
+    match written {
+        Some(name) => Command::WriteBaseline(form.format(), list, name),
+        None => Command::Rules(form, list, baseline),
     }
 }

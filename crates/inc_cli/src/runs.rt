@@ -5,15 +5,16 @@ ghost use Rattle.inc_args.specs.CompilerWords.{as_options};
 ghost use Rattle.inc_args.specs.Meaning.{meaning};
 ghost use Rattle.inc_args.specs.Views.{seen_arguments, seen_format, seen_forms, seen_languages, seen_question, seen_request};
 ghost use Rattle.inc_cli.specs.Languages.{language_of};
-ghost use Rattle.inc_cli.specs.Processes.{cost_of, default_format, form_of, format_named, formatted, in_format, most_of, of_files, rules_format, scan_form, top_by, who_of, IsAnswer, IsAnswerFrom, IsAnswerTo, IsPromise, IsPromiseFrom, IsPromiseOf, IsRefusedRun, IsTold, IsToldRun};
+ghost use Rattle.inc_cli.specs.Processes.{cost_by, cost_of, default_format, folded_of, form_of, format_named, formatted, in_format, is_folded, most_of, of_files, rule_form_of, rules_format, scan_form, top_by, tree_by, tree_of, who_of, IsAnswer, IsAnswerFrom, IsAnswerTo, IsPromise, IsPromiseFrom, IsPromiseOf, IsRefusedRun, IsTold, IsToldRun};
 ghost use Rattle.inc_inputs.specs.Reports.{out_of_memory};
 ghost use Rattle.inc_cli.specs.Views.{output_of, seen_command, seen_end};
 ghost use Rattle.inc_inputs.specs.Views.{seen};
 
 use crate::answers::Answer;
+use crate::commands::{Command, RuleForm};
 use crate::notes::note;
 use crate::pp::preprocess;
-use crate::questions::{Command, ask};
+use crate::questions::ask;
 use crate::reports::report;
 use crate::rules::ask_rules;
 use crate::scan::list_directives;
@@ -76,7 +77,7 @@ pub fn run<I: Inputs, O: ByteSink, E: ByteSink>(
         (output_of (E.written messages) (E.written result.2) (E.has_failed result.2)) result.0 }
     // What a cut promises: no preprocessing of the source that the words name reads their header, and nothing cheaper separates.
     ensures promised { let m = meaning (as_options (map string_bytes words.now)) in
-        IsToldRun m.is_quiet (IsPromise I.begins I.gives (record { opens = I.opens; left = I.Stream.left }) is_terminal m inputs
+        IsToldRun m.is_quiet (IsPromise I.begins I.gives I.puts (record { opens = I.opens; left = I.Stream.left }) is_terminal m inputs
         (output_of (O.written out) (O.written result.1) (O.has_failed result.1)))
         (output_of (E.written messages) (E.written result.2) (E.has_failed result.2)) result.0 }
 {
@@ -133,7 +134,7 @@ fn run_options<I: Inputs, O: ByteSink, E: ByteSink>(
         (output_of (O.written out) (O.written result.1) (O.has_failed result.1)))
         (output_of (E.written messages) (E.written result.2) (E.has_failed result.2)) result.0 }
     ensures promised { let m = meaning (map string_bytes words.now) in
-        IsToldRun m.is_quiet (IsPromise I.begins I.gives (record { opens = I.opens; left = I.Stream.left }) is_terminal m inputs
+        IsToldRun m.is_quiet (IsPromise I.begins I.gives I.puts (record { opens = I.opens; left = I.Stream.left }) is_terminal m inputs
         (output_of (O.written out) (O.written result.1) (O.has_failed result.1)))
         (output_of (E.written messages) (E.written result.2) (E.has_failed result.2)) result.0 }
 {
@@ -166,7 +167,7 @@ fn answer<I: Inputs, O: ByteSink>(
         IsAnswer I.begins I.gives I.puts (record { opens = I.opens; left = I.Stream.left }) is_terminal (seen_arguments args.now) inputs
         (output_of (O.written out) (O.written result.1) (O.has_failed result.1)) (seen_end result.0) }
     ensures promised { seen_end result.0 ≢ Err out_of_memory →
-        IsPromise I.begins I.gives (record { opens = I.opens; left = I.Stream.left }) is_terminal (seen_arguments args.now) inputs
+        IsPromise I.begins I.gives I.puts (record { opens = I.opens; left = I.Stream.left }) is_terminal (seen_arguments args.now) inputs
         (output_of (O.written out) (O.written result.1) (O.has_failed result.1)) (seen_end result.0) }
 {
     let mut inputs = inputs;
@@ -189,7 +190,7 @@ fn answer_from<I: Inputs, O: ByteSink>(
         IsAnswerFrom I.gives I.puts (record { opens = I.opens; left = I.Stream.left }) is_terminal (seen_arguments args.now) inputs
         (output_of (O.written out) (O.written result.1) (O.has_failed result.1)) (seen_end result.0) }
     ensures promised { seen_end result.0 ≢ Err out_of_memory →
-        IsPromiseFrom I.gives (record { opens = I.opens; left = I.Stream.left }) is_terminal (seen_arguments args.now) inputs
+        IsPromiseFrom I.gives I.puts (record { opens = I.opens; left = I.Stream.left }) is_terminal (seen_arguments args.now) inputs
         (output_of (O.written out) (O.written result.1) (O.has_failed result.1)) (seen_end result.0) }
 {
     match language_of(args.languages) {
@@ -219,7 +220,7 @@ fn answer_in<I: Inputs, O: ByteSink>(
         IsAnswerTo I.gives I.puts (record { opens = I.opens; left = I.Stream.left }) setup.now.language setup.now.is_terminal (seen_request request.now) inputs
         (output_of (O.written out) (O.written result.1) (O.has_failed result.1)) (seen_end result.0) }
     ensures promised { seen_end result.0 ≢ Err out_of_memory →
-        IsPromiseOf I.gives (record { opens = I.opens; left = I.Stream.left }) setup.now.language setup.now.is_terminal (seen_request request.now) inputs
+        IsPromiseOf I.gives I.puts (record { opens = I.opens; left = I.Stream.left }) setup.now.language setup.now.is_terminal (seen_request request.now) inputs
         (output_of (O.written out) (O.written result.1) (O.has_failed result.1)) (seen_end result.0) }
 {
     let no_limits = LimitArgs {
@@ -251,13 +252,14 @@ fn answer_in<I: Inputs, O: ByteSink>(
             }
         }
         Request::Rules(question, words, format) => {
-            match rules_format(setup.is_terminal, format.name) {
-                Ok(format) => ask_rules(setup, format, question, words, &no_limits, inputs, out),
+            match rule_form_of(setup.is_terminal, format.name, words.written) {
+                Ok(form) => ask_rules(setup, form, question, words, &no_limits, inputs, out),
                 Err(failure) => (Err(failure), out),
             }
         }
         Request::Cost(question, top, format) => match cost_of(
             setup.is_terminal,
+            question,
             format.name,
             *top,
         ) {
@@ -298,13 +300,76 @@ fn who_of(
 /// How many headers and directives are printed of what includes cost, where no number is given.
 const TOP: usize = 20;
 
-/// What includes cost, in the format of this name, and as much as a word says.
+/// What includes cost, in the format of this name, and as much as a word says; or trees, where one source is named or stacks are asked for.
 fn cost_of(
+    is_terminal: bool,
+    question: &QuestionArgs<'_>,
+    name: Option<&str>,
+    top: Option<&str>,
+) -> Result<Command<'static>, Failure>
+    ensures { seen seen_command result ≡ cost_of is_terminal (seen_question question.now) (option_map (λ n. n.now) name.entry) (option_map (λ w. w.now) top.entry) }
+{
+    if question.source.is_some() {
+        return tree_of(is_terminal, question, name, top);
+    }
+    if is_folded(name) {
+        return folded_of(question, top);
+    }
+    costs_by(is_terminal, name, top)
+}
+
+/// Whether the format of this name is that of stacks.
+fn is_folded(name: Option<&str>) -> bool
+    ensures { result ≡ is_folded (option_map (λ n. n.now) name.entry) }
+{
+    name.unwrap_or("") == "folded"
+}
+
+/// The tree of one source, where nothing else says of what it is told.
+fn tree_of(
+    is_terminal: bool,
+    question: &QuestionArgs<'_>,
+    name: Option<&str>,
+    top: Option<&str>,
+) -> Result<Command<'static>, Failure>
+    ensures { seen seen_command result ≡ tree_of is_terminal (seen_question question.now) (option_map (λ n. n.now) name.entry) (option_map (λ w. w.now) top.entry) }
+{
+    if !question.from.is_empty() || !question.to.is_empty() || top.is_some() {
+        return Err(Failure::OfAlone);
+    }
+    tree_by(is_terminal, name)
+}
+
+/// The same in the format of this name.
+fn tree_by(is_terminal: bool, name: Option<&str>) -> Result<Command<'static>, Failure>
+    ensures { seen seen_command result ≡ tree_by is_terminal (option_map (λ n. n.now) name.entry) }
+{
+    if is_folded(name) {
+        return Ok(Command::Folded);
+    }
+    match rules_format(is_terminal, name) {
+        Ok(format) => Ok(Command::Tree(format)),
+        Err(failure) => Err(failure),
+    }
+}
+
+/// The trees of sources as stacks, where nothing says how much is printed.
+fn folded_of(question: &QuestionArgs<'_>, top: Option<&str>) -> Result<Command<'static>, Failure>
+    ensures { seen seen_command result ≡ folded_of (seen_question question.now) (option_map (λ w. w.now) top.entry) }
+{
+    if !question.to.is_empty() || top.is_some() {
+        return Err(Failure::FoldedAlone);
+    }
+    Ok(Command::Folded)
+}
+
+/// What includes cost, in the format of this name, and as much as a word says.
+fn costs_by(
     is_terminal: bool,
     name: Option<&str>,
     top: Option<&str>,
 ) -> Result<Command<'static>, Failure>
-    ensures { seen seen_command result ≡ cost_of is_terminal (option_map (λ n. n.now) name.entry) (option_map (λ w. w.now) top.entry) }
+    ensures { seen seen_command result ≡ cost_by (top_by (option_map (λ w. w.now) top.entry)) (rules_format is_terminal (option_map (λ n. n.now) name.entry)) }
 {
     let top = match top_by(top) {
         Ok(top) => top,
@@ -326,6 +391,25 @@ fn top_by(word: Option<&str>) -> Result<usize, Failure>
     match number_in(word.as_bytes()) {
         Some(most) => Ok(most as usize),
         None => Err(Failure::NoTop),
+    }
+}
+
+/// The form of this name in which rules are printed. SARIF tells what breaks them, so no baseline is written beside it.
+fn rule_form_of(
+    is_terminal: bool,
+    name: Option<&str>,
+    written: Option<&str>,
+) -> Result<RuleForm, Failure>
+    ensures { seen (λ form. form) result
+        ≡ rule_form_of is_terminal (option_map (λ n. n.now) name.entry) (option_map (λ w. w.now) written.entry) }
+{
+    if name.unwrap_or("") == "sarif" && written.is_none() {
+        return Ok(RuleForm::Sarif);
+    }
+    match rules_format(is_terminal, name) {
+        Ok(Some(format)) => Ok(RuleForm::In(format)),
+        Ok(None) => Ok(RuleForm::Lines),
+        Err(failure) => Err(failure),
     }
 }
 

@@ -5,8 +5,8 @@ ghost use Rattle.inc_inputs.specs.Reports.{out_of_memory};
 ghost use Rattle.inc_cli.specs.Scans.{IsScan, IsScanOf, scanned};
 ghost use Rattle.inc_cli.specs.Views.{output_of, seen_end};
 
+use crate::answering::end_of;
 use crate::answers::Answer;
-use crate::questions::end_of;
 use crate::runs::Setup;
 use inc_inputs::{Failure, Hindrance, Inputs, unread};
 use inc_report::{ScanForm, run_scan_owned, run_scan_too_long};

@@ -17,3 +17,9 @@ pub mod SearchedFacts
 pub mod EntryLemmas
 pub mod GroupLemmas
 pub mod SameWeights
+pub mod TreeLemmas
+pub mod TreeFiles
+pub mod BranchLemmas
+pub mod TreeRooms
+pub mod TreeSame
+pub mod TreeSteps

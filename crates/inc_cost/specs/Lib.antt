@@ -11,3 +11,6 @@ pub mod Shares
 pub mod Sums
 pub mod Groups
 pub mod Ranking
+-- the trees of sources
+pub mod Trees
+pub mod Branches

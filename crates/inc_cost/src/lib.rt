@@ -2,6 +2,7 @@
 #![tactic(auto)]
 
 mod adding;
+mod branches;
 mod certified;
 mod checking;
 mod costs;
@@ -15,8 +16,11 @@ mod searched;
 mod searches;
 mod shares;
 mod totals;
+mod trees;
 
+pub use branches::{Branch, branches_of};
 pub use costs::{Amounts, Costs};
 pub use groups::{Group, GroupCost, group_cost};
 pub use ranking::dearest;
 pub use totals::total;
+pub use trees::{Node, TreeWalk, forest, own_weight};

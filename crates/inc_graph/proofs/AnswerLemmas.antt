@@ -13,88 +13,92 @@ use Rattle.inc_directive.specs.FileDirectives.{Directive}
 use Rattle.inc_directive.specs.declared.files.FileFault.{FileFault}
 use Rattle.inc_graph.specs.MissingLists.{Missing}
 use Rattle.inc_lookup.specs.Projects.{Listing, bytes_at}
-use Rattle.inc_graph.specs.FileEntries.{Entry}
+use Rattle.inc_lookup.specs.declared.projects.DirectiveId.{DirectiveId}
+use Rattle.inc_graph.specs.FileEntries.{Definition, Entry}
 use Rattle.inc_graph.specs.declared.building.entries.Entry.TheVariants as entry
 use Rattle.inc_graph.specs.declared.building.GraphRefusal.{GraphRefusal}
 use Rattle.inc_graph.specs.declared.building.GraphRefusal.TheVariants.{TooManyDirectives}
 use Rattle.inc_graph.specs.declared.graphs.Blocker.{Blocker}
 use Rattle.inc_graph.specs.declared.graphs.BlockerKind.TheVariants as kind
 use Rattle.inc_graph.specs.declared.graphs.Edge as declared
-use Rattle.inc_graph.specs.IncludeGraph.{Edge, read_directives, Graph, IsGraphAnswer, is_found, entry_edge, entry_missing, entry_blocker, entries_from, edges_from, missing_from, blockers_from, directive_count, entry_of, is_defined_in, source_files, Start, text_definitions, inner_files, bad_file, most_directives, sized_graph, graph_of_files, graph_or_bad}
+use Rattle.inc_graph.specs.IncludeGraph.{Edge, read_directives, Graph, IsGraphAnswer, is_found, entry_edge, entry_missing, entry_blocker, entry_definition, definitions_from, entries_from, edges_from, missing_from, blockers_from, directive_count, entry_of, is_defined_in, source_files, Start, text_definitions, inner_files, bad_file, most_directives, sized_graph, graph_of_files, graph_or_bad}
 use Rattle.inc_graph.specs.Entries.{entries_of, file_entries}
 use Rattle.inc_graph.specs.Views.{seen_edge}
 use Rattle.inc_graph.specs.ClosureSearch.{AreStates, state_of}
 use Rattle.inc_graph.specs.GraphLists.{State, bad_state, bad_states, first_refusal, collected, is_include, size, state_defines, total, with_entry, with_entries, with_state, with_states}
 use Rattle.inc_graph.proofs.DefinedNames.{flags_agree}
-use Rattle.inc_graph.proofs.EntryLemmas.{included, picked_state, picked_edges, picked_missing, picked_blockers, picked_included}
+use Rattle.inc_graph.proofs.EntryLemmas.{included, picked_state, picked_edges, picked_missing, picked_blockers, picked_definitions, picked_included}
 use Rattle.inc_graph.proofs.OneAnswer.{filter_map_agree, flat_map_agree}
 
 ---- what is added to a graph
 
-graph_with : Graph → List Edge → List Missing → List Blocker → Graph
-graph_with g es ms bs = record { files = g.files; sources = g.sources; headers = g.headers; edges = es; missing = ms; blockers = bs }
+graph_with : Graph → List Edge → List Missing → List Blocker → List DirectiveId → Graph
+graph_with g es ms bs ds = record { files = g.files; sources = g.sources; headers = g.headers; edges = es; missing = ms; blockers = bs; definitions = ds }
 
-with_more : Graph → List Edge → List Missing → List Blocker → Graph
-with_more g es ms bs = graph_with g (g.edges ++ es) (g.missing ++ ms) (g.blockers ++ bs)
+with_more : Graph → List Edge → List Missing → List Blocker → List DirectiveId → Graph
+with_more g es ms bs ds = graph_with g (g.edges ++ es) (g.missing ++ ms) (g.blockers ++ bs) (g.definitions ++ ds)
 
-same_graph : (g : Graph) (es fs : List Edge) (ms ns : List Missing) (bs cs : List Blocker) → es ≡ fs → ms ≡ ns → bs ≡ cs → graph_with g es ms bs ≡ graph_with g fs ns cs
-same_graph g es fs ms ns bs cs e m b = ap (λ x. graph_with g x ms bs) e ∙ ap (λ x. graph_with g fs x bs) m ∙ ap (λ x. graph_with g fs ns x) b
+same_graph : (g : Graph) (es fs : List Edge) (ms ns : List Missing) (bs cs : List Blocker) (ds ts : List DirectiveId) → es ≡ fs → ms ≡ ns → bs ≡ cs → ds ≡ ts → graph_with g es ms bs ds ≡ graph_with g fs ns cs ts
+same_graph g es fs ms ns bs cs ds ts e m b d =
+    ap (λ x. graph_with g x ms bs ds) e ∙ ap (λ x. graph_with g fs x bs ds) m ∙ ap (λ x. graph_with g fs ns x ds) b ∙ ap (λ x. graph_with g fs ns cs x) d
 
-with_none : (g : Graph) → with_more g [] [] [] ≡ g
+with_none : (g : Graph) → with_more g [] [] [] [] ≡ g
 unfolding graph_with with_more
-with_none g = same_graph g _ g.edges _ g.missing _ g.blockers (append-nil g.edges) (append-nil g.missing) (append-nil g.blockers)
+with_none g = same_graph g _ g.edges _ g.missing _ g.blockers _ g.definitions (append-nil g.edges) (append-nil g.missing) (append-nil g.blockers) (append-nil g.definitions)
 
-with_twice : (g : Graph) (es fs : List Edge) (ms ns : List Missing) (bs cs : List Blocker) → with_more (with_more g es ms bs) fs ns cs ≡ with_more g (es ++ fs) (ms ++ ns) (bs ++ cs)
+with_twice : (g : Graph) (es fs : List Edge) (ms ns : List Missing) (bs cs : List Blocker) (ds ts : List DirectiveId)
+    → with_more (with_more g es ms bs ds) fs ns cs ts ≡ with_more g (es ++ fs) (ms ++ ns) (bs ++ cs) (ds ++ ts)
 unfolding graph_with with_more
-with_twice g es fs ms ns bs cs =
-    same_graph g _ (g.edges ++ (es ++ fs)) _ (g.missing ++ (ms ++ ns)) _ (g.blockers ++ (bs ++ cs))
-    (append_assoc g.edges es fs) (append_assoc g.missing ms ns) (append_assoc g.blockers bs cs)
+with_twice g es fs ms ns bs cs ds ts =
+    same_graph g _ (g.edges ++ (es ++ fs)) _ (g.missing ++ (ms ++ ns)) _ (g.blockers ++ (bs ++ cs)) _ (g.definitions ++ (ds ++ ts))
+    (append_assoc g.edges es fs) (append_assoc g.missing ms ns) (append_assoc g.blockers bs cs) (append_assoc g.definitions ds ts)
 
 with_entry_is : (defined : ℕ → Bool) (file : ℕ) (g : Graph) (e : Entry)
-    → with_entry defined file g e ≡ with_more g (option_to_list (entry_edge file e)) (option_to_list (entry_missing file e)) (option_to_list (entry_blocker defined file e))
+    → with_entry defined file g e ≡ with_more g (option_to_list (entry_edge file e)) (option_to_list (entry_missing file e)) (option_to_list (entry_blocker defined file e)) (option_to_list (entry_definition file e))
 unfolding graph_with with_more
-with_entry_is defined file g (entry.Edge to line) = sym (same_graph g _ _ _ g.missing _ g.blockers refl (append-nil g.missing) (append-nil g.blockers))
-with_entry_is defined file g (entry.Missing line header) = sym (same_graph g _ g.edges _ _ _ g.blockers (append-nil g.edges) refl (append-nil g.blockers))
-with_entry_is defined file g (entry.Blocker line why) = sym (same_graph g _ g.edges _ g.missing _ _ (append-nil g.edges) (append-nil g.missing) refl)
+with_entry_is defined file g (entry.Edge to line) = sym (same_graph g _ _ _ g.missing _ g.blockers _ g.definitions refl (append-nil g.missing) (append-nil g.blockers) (append-nil g.definitions))
+with_entry_is defined file g (entry.Missing line header) = sym (same_graph g _ g.edges _ _ _ g.blockers _ g.definitions (append-nil g.edges) refl (append-nil g.blockers) (append-nil g.definitions))
+with_entry_is defined file g (entry.Blocker line why) = sym (same_graph g _ g.edges _ g.missing _ _ _ g.definitions (append-nil g.edges) (append-nil g.missing) refl (append-nil g.definitions))
 with_entry_is defined file g (entry.ByName name line) = by (defined name)
   where
     b : Blocker
     b = record { file = file; line = line; kind = kind.Computed }
 
-    by : (x : Bool) → cond x (record g { blockers = g.blockers ++ b ∷ [] }) g ≡ with_more g [] [] (option_to_list (cond x (Some b) None))
-    by true = sym (same_graph g _ g.edges _ g.missing _ _ (append-nil g.edges) (append-nil g.missing) refl)
+    by : (x : Bool) → cond x (record g { blockers = g.blockers ++ b ∷ [] }) g ≡ with_more g [] [] (option_to_list (cond x (Some b) None)) []
+    by true = sym (same_graph g _ g.edges _ g.missing _ _ _ g.definitions (append-nil g.edges) (append-nil g.missing) refl (append-nil g.definitions))
     by false = sym (with_none g)
-with_entry_is defined file g (entry.Defines name) = sym (with_none g)
+with_entry_is defined file g (entry.Defines name line) = sym (same_graph g _ g.edges _ g.missing _ g.blockers _ _ (append-nil g.edges) (append-nil g.missing) (append-nil g.blockers) refl)
 
 cons_option-list : {X : Type 0} (o : Option X) (xs : List X) → option_to_list o ++ xs ≡ cons_option o xs
 cons_option-list None xs = refl
 cons_option-list (Some x) xs = refl
 
-same_more : (g : Graph) (es fs : List Edge) (ms ns : List Missing) (bs cs : List Blocker) → es ≡ fs → ms ≡ ns → bs ≡ cs → with_more g es ms bs ≡ with_more g fs ns cs
-same_more g es fs ms ns bs cs e m b = ap (λ x. with_more g x ms bs) e ∙ ap (λ x. with_more g fs x bs) m ∙ ap (λ x. with_more g fs ns x) b
+same_more : (g : Graph) (es fs : List Edge) (ms ns : List Missing) (bs cs : List Blocker) (ds ts : List DirectiveId) → es ≡ fs → ms ≡ ns → bs ≡ cs → ds ≡ ts → with_more g es ms bs ds ≡ with_more g fs ns cs ts
+same_more g es fs ms ns bs cs ds ts e m b d =
+    ap (λ x. with_more g x ms bs ds) e ∙ ap (λ x. with_more g fs x bs ds) m ∙ ap (λ x. with_more g fs ns x ds) b ∙ ap (λ x. with_more g fs ns cs x) d
 
 with_entries_is : (defined : ℕ → Bool) (file : ℕ) (g : Graph) (es : List Entry)
-    → with_entries defined file g es ≡ with_more g (filter_map (entry_edge file) es) (filter_map (entry_missing file) es) (filter_map (entry_blocker defined file) es)
+    → with_entries defined file g es ≡ with_more g (filter_map (entry_edge file) es) (filter_map (entry_missing file) es) (filter_map (entry_blocker defined file) es) (filter_map (entry_definition file) es)
 with_entries_is defined file g [] = sym (with_none g)
 with_entries_is defined file g (e ∷ es) =
     with_entries_is defined file (with_entry defined file g e) es
-    ∙ ap (λ h. with_more h (filter_map (entry_edge file) es) (filter_map (entry_missing file) es) (filter_map (entry_blocker defined file) es)) (with_entry_is defined file g e)
-    ∙ with_twice g _ _ _ _ _ _
-    ∙ same_more g _ _ _ _ _ _ (cons_option-list (entry_edge file e) _) (cons_option-list (entry_missing file e) _) (cons_option-list (entry_blocker defined file e) _)
+    ∙ ap (λ h. with_more h (filter_map (entry_edge file) es) (filter_map (entry_missing file) es) (filter_map (entry_blocker defined file) es) (filter_map (entry_definition file) es)) (with_entry_is defined file g e)
+    ∙ with_twice g _ _ _ _ _ _ _ _
+    ∙ same_more g _ _ _ _ _ _ _ _ (cons_option-list (entry_edge file e) _) (cons_option-list (entry_missing file e) _) (cons_option-list (entry_blocker defined file e) _) (cons_option-list (entry_definition file e) _)
 
 with_state_is : (defined : ℕ → Bool) (file : ℕ) (g : Graph) (s : State)
-    → with_state defined file g s ≡ with_more g (picked_state entry_edge file s) (picked_state entry_missing file s) (picked_state (entry_blocker defined) file s)
+    → with_state defined file g s ≡ with_more g (picked_state entry_edge file s) (picked_state entry_missing file s) (picked_state (entry_blocker defined) file s) (picked_state entry_definition file s)
 with_state_is defined file g None = sym (with_none g)
 with_state_is defined file g (Some (Ok es)) = with_entries_is defined file g es
 with_state_is defined file g (Some (Err line)) = sym (with_none g)
 
 with_states_is : (defined : ℕ → Bool) (g : Graph) (file : ℕ) (ss : List State)
-    → with_states defined g file ss ≡ with_more g (collected (picked_state entry_edge) file ss) (collected (picked_state entry_missing) file ss) (collected (picked_state (entry_blocker defined)) file ss)
+    → with_states defined g file ss ≡ with_more g (collected (picked_state entry_edge) file ss) (collected (picked_state entry_missing) file ss) (collected (picked_state (entry_blocker defined)) file ss) (collected (picked_state entry_definition) file ss)
 with_states_is defined g file [] = sym (with_none g)
 with_states_is defined g file (s ∷ ss) =
     with_states_is defined (with_state defined file g s) (file + 1) ss
-    ∙ ap (λ h. with_more h (collected (picked_state entry_edge) (file + 1) ss) (collected (picked_state entry_missing) (file + 1) ss) (collected (picked_state (entry_blocker defined)) (file + 1) ss)) (with_state_is defined file g s)
-    ∙ with_twice g _ _ _ _ _ _
+    ∙ ap (λ h. with_more h (collected (picked_state entry_edge) (file + 1) ss) (collected (picked_state entry_missing) (file + 1) ss) (collected (picked_state (entry_blocker defined)) (file + 1) ss) (collected (picked_state entry_definition) (file + 1) ss)) (with_state_is defined file g s)
+    ∙ with_twice g _ _ _ _ _ _ _ _
 
 ---- how many there are
 
@@ -104,7 +108,7 @@ included_entry (entry.Edge to line) es h = ap suc h
 included_entry (entry.Missing line header) es h = ap suc h
 included_entry (entry.Blocker line why) es h = ap suc h
 included_entry (entry.ByName name line) es h = ap suc h
-included_entry (entry.Defines name) es h = h
+included_entry (entry.Defines name line) es h = h
 
 included_entries : (es : List Entry) → length (filter_map included es) ≡ length (filter is_include es)
 included_entries [] = refl
@@ -126,7 +130,7 @@ edge_sizes file (entry.Edge to line) es h = omega arith
 edge_sizes file (entry.Missing line header) es h = omega arith
 edge_sizes file (entry.Blocker line why) es h = omega arith
 edge_sizes file (entry.ByName name line) es h = omega arith
-edge_sizes file (entry.Defines name) es h = h
+edge_sizes file (entry.Defines name line) es h = h
 
 edges_sizes : (file : ℕ) (es : List Entry) → length (filter_map (entry_edge file) es) ≤ length (filter is_include es)
 edges_sizes file [] = omega arith
@@ -170,7 +174,7 @@ flat_map_options : {X Y : Type 0} (h : X → Option Y) (xs : List X) → flat_ma
 flat_map_options h [] = refl
 flat_map_options h (x ∷ xs) = cons_option-list (h x) (flat_map (λ y. option_to_list (h y)) xs) ∙ ap (cons_option (h x)) (flat_map_options h xs)
 
-bad_of_file : (what : Directive → Option Entry) (file : ℕ) (places : List ℕ) (r : Result (List Directive) FileFault)
+bad_of_file : (what : Directive → Option Entry) (file : ℕ) (places : List Definition) (r : Result (List Directive) FileFault)
     → bad_state file (Some (entries_of what places r)) ≡ option_to_list (elim r [ Ok directives ↦ None | Err fault ↦ Some (file, fault) ])
 bad_of_file what file places (Ok directives) = refl
 bad_of_file what file places (Err fault) = refl
@@ -188,7 +192,7 @@ length_states setting listing sources headers ss h = ap length h.2 ∙ length-ma
 
 -- a graph of no directives
 abbrev pub empty_graph : (files : ℕ) (sources headers : List ℕ) → Graph
-empty_graph files sources headers = record { files = files; sources = sources; headers = headers; edges = []; missing = []; blockers = [] }
+empty_graph files sources headers = record { files = files; sources = sources; headers = headers; edges = []; missing = []; blockers = []; definitions = [] }
 
 -- where names are defined as flags say
 blockers_agree : (setting : Setting) (listing : Listing) (a b : ℕ → Bool) (starts : List Start) (file : ℕ) → ((name : ℕ) → a name ≡ b name) → blockers_from setting listing a starts file ≡ blockers_from setting listing b starts file
@@ -199,7 +203,7 @@ blockers_agree setting listing a b starts file same = filter_map_agree (entry_bl
     one (entry.Missing line header) = refl
     one (entry.Blocker line why) = refl
     one (entry.ByName name line) = ap (λ (x : Bool). cond x (Some (record { file = file; line = line; kind = kind.Computed })) None) (same name)
-    one (entry.Defines name) = refl
+    one (entry.Defines name line) = refl
 
 pub graph_is : (setting : Setting) (listing : Listing) (sources : List Source) (headers : List ℕ) (starts : ℕ → List Start) (ss : List State) → ss ≡ map (state_of setting listing starts headers) (range_with_len 0 (length listing.files))
     → (defined : ℕ → Bool) → ((name : ℕ) → defined name ≡ is_defined_in setting listing (inner_files listing starts headers) name)
@@ -210,12 +214,13 @@ graph_is setting listing sources headers starts ss e defined agree =
     let st = map (state_of setting listing starts headers) (range_with_len 0 (length listing.files)) in
     let files = inner_files listing starts headers in
     ap (with_states defined g 0) e ∙ with_states_is defined g 0 st
-    ∙ same_graph g _ _ _ _ _ _
+    ∙ same_graph g _ _ _ _ _ _ _ _
     (collected_files (picked_state entry_edge) (λ f. edges_from setting listing (starts f) f) setting listing starts headers (λ f. picked_edges setting listing (starts f) f) (λ f. refl))
     (collected_files (picked_state entry_missing) (λ f. missing_from setting listing (starts f) f) setting listing starts headers (λ f. picked_missing setting listing (starts f) f) (λ f. refl))
     (collected_files (picked_state (entry_blocker defined)) (λ f. blockers_from setting listing defined (starts f) f) setting listing starts headers (λ f. picked_blockers setting listing defined (starts f) f) (λ f. refl)
     ∙ flat_map_agree (λ f. blockers_from setting listing defined (starts f) f) (λ f. blockers_from setting listing (is_defined_in setting listing files) (starts f) f)
     (λ f. blockers_agree setting listing defined (is_defined_in setting listing files) (starts f) f agree) files)
+    (collected_files (picked_state entry_definition) (λ f. definitions_from setting listing f) setting listing starts headers (λ f. picked_definitions setting listing (starts f) f) (λ f. refl))
 
 -- how many directives the files have
 pub count_is : (setting : Setting) (listing : Listing) (starts : ℕ → List Start) (headers : List ℕ) (ss : List State) → ss ≡ map (state_of setting listing starts headers) (range_with_len 0 (length listing.files))
@@ -280,6 +285,6 @@ whole_answer setting listing sources headers ss graph h e t defined count count_
 ---- the code's lists
 
 -- parts with no directives
-pub empty_parts : (n files : ℕ) (ss sources hs headers : List ℕ) (es : List declared.Edge) (ms : List Missing) (bs : List Blocker) → n ≡ files → ss ≡ sources → hs ≡ headers → es ≡ [] → ms ≡ [] → bs ≡ []
-    → record { files = n; sources = ss; headers = hs; edges = map seen_edge es; missing = ms; blockers = bs } ≡ empty_graph files sources headers
-empty_parts n files ss sources hs headers es ms bs f s h e m b = rw (f, s, h, e, m, b) refl
+pub empty_parts : (n files : ℕ) (ss sources hs headers : List ℕ) (es : List declared.Edge) (ms : List Missing) (bs : List Blocker) (ds : List DirectiveId) → n ≡ files → ss ≡ sources → hs ≡ headers → es ≡ [] → ms ≡ [] → bs ≡ [] → ds ≡ []
+    → record { files = n; sources = ss; headers = hs; edges = map seen_edge es; missing = ms; blockers = bs; definitions = ds } ≡ empty_graph files sources headers
+empty_parts n files ss sources hs headers es ms bs ds f s h e m b d = rw (f, s, h, e, m, b, d) refl

@@ -9,6 +9,7 @@ use Rattle.std.proofs.lemmas.List.{append-nil, length_push, map_push}
 use Rattle.std.proofs.lemmas.List.Elements.{All-nil, All-filter, All-map, All-weaker, filter-append, filter_passes}
 use Rattle.std.proofs.lemmas.List.Filters.{length-filter_both}
 use Rattle.std.proofs.lemmas.List.Sums.{AllPass-from_list_all, list_all-from_AllPass}
+use Rattle.inc_lookup.specs.declared.projects.DirectiveId.{DirectiveId}
 use Rattle.inc_graph.specs.Between.{between, kept_of, leaves_none}
 use Rattle.inc_graph.specs.IncludeGraph.{Edge, Graph, AreEnds, IsInner, IsSound, is_edge_before, are_ordered}
 use Rattle.inc_graph.specs.Members.{is_member}
@@ -83,6 +84,7 @@ between_sound g from to sound ends =
       missing_within = All-nil (λ (m : Missing). m.file < g.files);
       missing_ordered = refl;
       blockers_within = All-nil (λ (b : Blocker). b.file < g.files);
+      definitions_within = All-nil (λ (d : DirectiveId). d.file < g.files);
     }
 
 seen_cond : (b : Bool) (y : declared.Edge) (ys : List declared.Edge) (fs : List Edge) → map seen_edge ys ≡ fs → map seen_edge (cond b (y ∷ ys) ys) ≡ cond b (seen_edge y ∷ fs) fs
@@ -94,21 +96,21 @@ seen_kept p n [] = refl
 seen_kept p n (x ∷ xs) =
     seen_cond (p x) (with_number n x) (filter (λ (e : declared.Edge). p (seen_edge e)) (numbered_from (n + 1) xs)) (filter p xs) (seen_kept p (n + 1) xs)
 
-abbrev graph_of : (files : ℕ) (sources headers : List ℕ) → List Edge → List Missing → List Blocker → Graph
-graph_of n ss hs es ms bs = record { files = n; sources = ss; headers = hs; edges = es; missing = ms; blockers = bs }
+abbrev graph_of : (files : ℕ) (sources headers : List ℕ) → List Edge → List Missing → List Blocker → List DirectiveId → Graph
+graph_of n ss hs es ms bs ds = record { files = n; sources = ss; headers = hs; edges = es; missing = ms; blockers = bs; definitions = ds }
 
 -- parts whose edges are those that leave none of the headers
 pub part_is : (g : Graph) (from to : List ℕ) (p : Parts) (es : List declared.Edge) → p.files ≡ g.files → p.sources ≡ from → p.headers ≡ to → es ≡ numbered g.edges
-    → p.edges.items ≡ numbered (map seen_edge (kept_of p.headers es)) → p.missing ≡ [] → p.blockers.items ≡ [] → seen_parts p ≡ between from to g
-part_is g from to p es files sources headers all are missing blockers =
+    → p.edges.items ≡ numbered (map seen_edge (kept_of p.headers es)) → p.missing ≡ [] → p.blockers.items ≡ [] → p.definitions.items ≡ [] → seen_parts p ≡ between from to g
+part_is g from to p es files sources headers all are missing blockers definitions =
     let edges : map seen_edge p.edges.items ≡ filter (leaves_none to) g.edges =
     ap (map seen_edge) are ∙ seen_numbered 0 (map seen_edge (kept_of p.headers es)) ∙ ap (λ (l : List ℕ). map seen_edge (kept_of l es)) headers
     ∙ ap (λ (l : List declared.Edge). map seen_edge (kept_of to l)) all ∙ seen_kept (leaves_none to) 0 g.edges in
-    same_fields p.files g.files p.sources from p.headers to (map seen_edge p.edges.items) (filter (leaves_none to) g.edges) p.missing p.blockers.items files sources headers edges missing blockers
+    same_fields p.files g.files p.sources from p.headers to (map seen_edge p.edges.items) (filter (leaves_none to) g.edges) p.missing p.blockers.items p.definitions.items files sources headers edges missing blockers definitions
   where
-    same_fields : (n m : ℕ) (ss ts hs ks : List ℕ) (es fs : List Edge) (ms : List Missing) (bs : List Blocker) → n ≡ m → ss ≡ ts → hs ≡ ks → es ≡ fs → ms ≡ [] → bs ≡ []
-        → graph_of n ss hs es ms bs ≡ graph_of m ts ks fs [] []
-    same_fields n m ss ts hs ks es fs ms bs f s h e miss b = rw (f, s, h, e, miss, b) refl
+    same_fields : (n m : ℕ) (ss ts hs ks : List ℕ) (es fs : List Edge) (ms : List Missing) (bs : List Blocker) (ds : List DirectiveId) → n ≡ m → ss ≡ ts → hs ≡ ks → es ≡ fs → ms ≡ [] → bs ≡ [] → ds ≡ []
+        → graph_of n ss hs es ms bs ds ≡ graph_of m ts ks fs [] [] []
+    same_fields n m ss ts hs ks es fs ms bs ds f s h e miss b d = rw (f, s, h, e, miss, b, d) refl
 
 pub are_parts_of : (g : Graph) (from to : List ℕ) (p : Parts) (fs : List Edge) → IsSound g → AreEnds g.files from to → seen_parts p ≡ between from to g → p.edges.items ≡ numbered fs → AreParts p
 are_parts_of g from to p fs sound ends is are =

@@ -1,13 +1,13 @@
 -- Which names that no build defines are defined by files, by what is known of each file.
 use Rattle.std.proofs.Common.{◌≡◌, ℕ, zero, suc, ◌+◌, ◌<◌, ◌==◌, ◌&&◌, ◌||◌, Bool, true, false, cond, not, List, [], ◌∷◌, Option, Some, None, Result, Ok, Err, length, get_or, map, replicate, take, inl, inr, refl, sym, ap, ◌∙◌, arith}
-use Rattle.std.specs.Prelude.{bytes_eq, filter, filter_map, option_and_then, nat_lt}
+use Rattle.std.specs.Prelude.{bytes_eq, filter, filter_map, option_and_then, option_map, nat_lt}
 use Rattle.std.specs.List.{cons_option, list_any, range_with_len}
 use Rattle.std.proofs.lemmas.Bool.{cond-true, cond-false, or_cases, eqb-true, le-ltb, lt-ltb, false≢true}
 use Rattle.std.proofs.lemmas.List.{get_or_default}
 use Rattle.std.proofs.lemmas.List.Folds.{list_any-append}
 use Rattle.std.proofs.lemmas.List.Quantifiers.{position-Some}
 use Rattle.inc_directive.specs.FileDirectives.{Directive}
-use Rattle.inc_directive.specs.Groups.{FileLine, file_lines}
+use Rattle.inc_directive.specs.Groups.{FileLine, directive_line, file_lines}
 use Rattle.inc_directive.specs.LineKinds.{LineKind, Include, Other, Quoted, Angled, ByName, Computed, defined_name}
 use Rattle.inc_directive.specs.declared.files.FileFault.{FileFault}
 use Rattle.inc_directive.specs.declared.kinds.DirectiveKind.TheVariants.{Foreign}
@@ -15,14 +15,13 @@ use Rattle.inc_text.specs.PhaseText.{phase_text}
 use Rattle.inc_token.specs.LineWalk.{lines_or_none}
 use Rattle.inc_token.specs.TokenLines.{token_lines}
 use Rattle.inc_lookup.specs.Projects.{Layout, Listing, bytes_at}
-use Rattle.inc_graph.specs.FileEntries.{Entry}
-use Rattle.inc_graph.specs.declared.building.entries.Entry.TheVariants as entry
+use Rattle.inc_graph.specs.FileEntries.{Definition, Entry, definition_entry}
 use Rattle.inc_graph.specs.ClosureSearch.{state_of}
 use Rattle.inc_graph.specs.Entries.{entries_of, file_entries, seen_state}
 use Rattle.inc_graph.specs.GraphLists.{State, defines, flag_at, state_defines}
 use Rattle.inc_lookup.specs.declared.projects.Form.TheVariants as form
 use Rattle.inc_graph.specs.HeaderNames.{HeaderName, header_of}
-use Rattle.inc_graph.specs.IncludeGraph.{Lead, Nowhere, To, Several, leads, lead_entry, name_entry, undefined_place, entry_at, entry_of, places_defined, text_definitions, file_definitions, is_defined_in, inner_files, is_found, read_directives, Start}
+use Rattle.inc_graph.specs.IncludeGraph.{Lead, Nowhere, To, Several, leads, lead_entry, name_entry, undefined_place, entry_at, entry_of, defined_at, definitions_in, is_of, text_definitions, file_definitions, is_defined_in, inner_files, is_found, read_directives, Start}
 use Rattle.inc_graph.specs.Members.{is_member}
 use Rattle.inc_graph.specs.Settings.{Setting, layouts_of}
 use Rattle.inc_graph.specs.declared.building.file_entries.FileState.{FileState}
@@ -54,19 +53,19 @@ all_define name names layouts starts file [] = refl
 all_define name names layouts starts file (d ∷ ds) =
     one_defines name names (leads layouts starts file d) d.kind d.line (filter_map (entry_of names layouts starts file) ds) ∙ all_define name names layouts starts file ds
 
-places_define : (name : ℕ) (places : List ℕ) → list_any (defines name) (map entry.Defines places) ≡ list_any (λ n. n == name) places
+places_define : (name : ℕ) (places : List Definition) → list_any (defines name) (map definition_entry places) ≡ list_any (is_of name) places
 places_define name [] = refl
-places_define name (n ∷ ns) = ap (λ b. (n == name) || b) (places_define name ns)
+places_define name (d ∷ ds) = ap (λ b. (d.name == name) || b) (places_define name ds)
 
-entries_define : (name : ℕ) (names : List (List ℕ)) (layouts : ℕ → Layout) (starts : List Start) (file : ℕ) (places : List ℕ) (r : Result (List Directive) FileFault)
-    → state_defines name (Some (entries_of (entry_of names layouts starts file) places r)) ≡ list_any (λ n. n == name) (elim r [ Ok directives ↦ places | Err fault ↦ [] ])
+entries_define : (name : ℕ) (names : List (List ℕ)) (layouts : ℕ → Layout) (starts : List Start) (file : ℕ) (places : List Definition) (r : Result (List Directive) FileFault)
+    → state_defines name (Some (entries_of (entry_of names layouts starts file) places r)) ≡ list_any (is_of name) (elim r [ Ok directives ↦ places | Err fault ↦ [] ])
 entries_define name names layouts starts file places (Ok ds) =
-    list_any-append (defines name) (filter_map (entry_of names layouts starts file) ds) (map entry.Defines places)
-    ∙ ap (λ b. b || list_any (defines name) (map entry.Defines places)) (all_define name names layouts starts file ds)
+    list_any-append (defines name) (filter_map (entry_of names layouts starts file) ds) (map definition_entry places)
+    ∙ ap (λ b. b || list_any (defines name) (map definition_entry places)) (all_define name names layouts starts file ds)
     ∙ places_define name places
 entries_define name names layouts starts file places (Err fault) = refl
 
-file_defines : (setting : Setting) (listing : Listing) (starts : List Start) (name file : ℕ) → state_defines name (Some (file_entries setting listing starts file)) ≡ list_any (λ n. n == name) (file_definitions setting listing file)
+file_defines : (setting : Setting) (listing : Listing) (starts : List Start) (name file : ℕ) → state_defines name (Some (file_entries setting listing starts file)) ≡ list_any (is_of name) (file_definitions setting listing file)
 file_defines setting listing starts name file =
     entries_define name setting.undefined (layouts_of setting listing) starts file (text_definitions setting (phase_text setting.language (bytes_at listing file))) (read_directives setting listing file)
 
@@ -88,7 +87,7 @@ states_define : (setting : Setting) (listing : Listing) (starts : ℕ → List S
 states_define setting listing starts headers ss e name =
     let test : ℕ → Bool = λ f. is_found (starts f) && not (is_member f headers) in
     ap (list_any (state_defines name)) e
-    ∙ any_map (state_defines name) (λ f. list_any (λ n. n == name) (file_definitions setting listing f)) (state_of setting listing starts headers) test
+    ∙ any_map (state_defines name) (λ f. list_any (is_of name) (file_definitions setting listing f)) (state_of setting listing starts headers) test
     (λ f t. ap (state_defines name) (cond-true (test f) _ _ t) ∙ file_defines setting listing (starts f) name f)
     (λ f t. ap (state_defines name) (cond-false (test f) _ _ t))
     0 (length listing.files)
@@ -99,21 +98,21 @@ place_low : (names : List (List ℕ)) (o : Option (List ℕ)) (n : ℕ) → opti
 place_low names None n e = cc
 place_low names (Some text) n e = (position-Some (bytes_eq text) names n [] e).0
 
-line_low : (names : List (List ℕ)) (o : Option ℕ) (name : ℕ) (rest : List ℕ) → ((n : ℕ) → o ≡ Some n → n < length names) → (list_any (λ n. n == name) rest ≡ true → name < length names)
-    → list_any (λ n. n == name) (cons_option o rest) ≡ true → name < length names
-line_low names None name rest here there t = there t
-line_low names (Some n) name rest here there t =
-    elim (or_cases (n == name) (list_any (λ m. m == name) rest) t) [
+line_low : (names : List (List ℕ)) (line : ℕ) (o : Option ℕ) (name : ℕ) (rest : List Definition) → ((n : ℕ) → o ≡ Some n → n < length names) → (list_any (is_of name) rest ≡ true → name < length names)
+    → list_any (is_of name) (cons_option (option_map (defined_at line) o) rest) ≡ true → name < length names
+line_low names line None name rest here there t = there t
+line_low names line (Some n) name rest here there t =
+    elim (or_cases (n == name) (list_any (is_of name) rest) t) [
       | inl is ↦ let same : n ≡ name = eqb-true n name is in rw (← same) (here n refl)
       | inr later ↦ there later
     ]
 
-lines_low : (names : List (List ℕ)) (ls : List FileLine) (name : ℕ) → list_any (λ n. n == name) (places_defined names ls) ≡ true → name < length names
+lines_low : (names : List (List ℕ)) (ls : List FileLine) (name : ℕ) → list_any (is_of name) (definitions_in names ls) ≡ true → name < length names
 lines_low names [] name t = absurd (false≢true t)
 lines_low names (l ∷ ls) name t =
-    line_low names (option_and_then (undefined_place names) (defined_name l.kind l.tokens)) name (places_defined names ls) (place_low names (defined_name l.kind l.tokens)) (lines_low names ls name) t
+    line_low names (directive_line l) (option_and_then (undefined_place names) (defined_name l.kind l.tokens)) name (definitions_in names ls) (place_low names (defined_name l.kind l.tokens)) (lines_low names ls name) t
 
-file_low : (setting : Setting) (ls : List FileLine) (r : Result (List Directive) FileFault) (name : ℕ) → list_any (λ n. n == name) (elim r [ Ok directives ↦ places_defined setting.undefined ls | Err fault ↦ [] ]) ≡ true
+file_low : (setting : Setting) (ls : List FileLine) (r : Result (List Directive) FileFault) (name : ℕ) → list_any (is_of name) (elim r [ Ok directives ↦ definitions_in setting.undefined ls | Err fault ↦ [] ]) ≡ true
     → name < length setting.undefined
 file_low setting ls (Ok ds) name t = lines_low setting.undefined ls name t
 file_low setting ls (Err fault) name t = absurd (false≢true t)
@@ -121,7 +120,7 @@ file_low setting ls (Err fault) name t = absurd (false≢true t)
 files_low : (setting : Setting) (listing : Listing) (files : List ℕ) (name : ℕ) → is_defined_in setting listing files name ≡ true → name < length setting.undefined
 files_low setting listing [] name t = absurd (false≢true t)
 files_low setting listing (f ∷ fs) name t =
-    elim (or_cases (list_any (λ n. n == name) (file_definitions setting listing f)) (is_defined_in setting listing fs name) t) [
+    elim (or_cases (list_any (is_of name) (file_definitions setting listing f)) (is_defined_in setting listing fs name) t) [
       | inl here ↦ file_low setting (file_lines setting.language (lines_or_none (token_lines setting.language (phase_text setting.language (bytes_at listing f))))) (read_directives setting listing f) name here
       | inr later ↦ files_low setting listing fs name later
     ]
@@ -200,9 +199,9 @@ flags_state ss i within flag new low name was now =
     ∙ ap (λ x. low && x) (sym (list_any_more (state_defines name) ss i None within))
 
 -- no name, no definition of one
-pub none_named : (names : List (List ℕ)) (ls : List FileLine) → length names ≡ 0 → places_defined names ls ≡ []
+pub none_named : (names : List (List ℕ)) (ls : List FileLine) → length names ≡ 0 → definitions_in names ls ≡ []
 none_named [] [] e = refl
-none_named [] (l ∷ ls) e = ap (λ o. cons_option o (places_defined [] ls)) (nowhere (defined_name l.kind l.tokens)) ∙ none_named [] ls e
+none_named [] (l ∷ ls) e = ap (λ o. cons_option (option_map (defined_at (directive_line l)) o) (definitions_in [] ls)) (nowhere (defined_name l.kind l.tokens)) ∙ none_named [] ls e
   where
     nowhere : (o : Option (List ℕ)) → option_and_then (undefined_place []) o ≡ None
     nowhere None = refl

@@ -15,15 +15,16 @@ use Rattle.inc_directive.specs.declared.files.FileFault.{FileFault}
 use Rattle.inc_lookup.specs.Paths.{normal_form}
 use Rattle.inc_text.specs.PhaseText.{phase_text}
 use Rattle.inc_lookup.specs.Projects.{Layout, Listing, SearchPath, Spot, bytes_at, layout_of, path_at, found_among, found_as, found_at, first_some, place_of, candidates, File}
+use Rattle.inc_lookup.specs.declared.projects.DirectiveId.{DirectiveId}
 use Rattle.inc_lookup.specs.declared.projects.Found.{Found}
 use Rattle.inc_graph.specs.MissingLists.{Missing}
-use Rattle.inc_graph.specs.FileEntries.{Entry}
+use Rattle.inc_graph.specs.FileEntries.{Definition, Entry, definition_entry}
 use Rattle.inc_graph.specs.declared.building.entries.Entry.TheVariants as entry
 use Rattle.inc_graph.specs.declared.graphs.Blocker.{Blocker}
 use Rattle.inc_graph.specs.declared.graphs.BlockerKind.TheVariants as kind
 use Rattle.inc_lookup.specs.declared.projects.Form.TheVariants as form
 use Rattle.inc_graph.specs.HeaderNames.{HeaderName, header_of}
-use Rattle.inc_graph.specs.IncludeGraph.{Edge, Named, Lead, Nowhere, To, Several, with_target, with_found, direct_header, named_place, found_by, leads, lead_entry, name_entry, undefined_place, text_definitions, entry_at, entry_of, entry_edge, entry_missing, entry_blocker, read_directives, graph_directives, entries_from, edges_from, missing_from, blockers_from, Start, found_so}
+use Rattle.inc_graph.specs.IncludeGraph.{Edge, Named, Lead, Nowhere, To, Several, with_target, with_found, direct_header, named_place, found_by, leads, lead_entry, name_entry, undefined_place, text_definitions, entry_at, entry_of, entry_edge, entry_missing, entry_blocker, entry_definition, definition_places, definitions_from, file_definitions, read_directives, graph_directives, entries_from, edges_from, missing_from, blockers_from, Start, found_so}
 use Rattle.inc_graph.specs.Entries.{entries_of, file_entries}
 use Rattle.inc_graph.specs.GraphLists.{State}
 
@@ -39,21 +40,21 @@ picked_state pick file (Some r) = picked pick file r
 ---- those of a file
 
 -- a definition is none of them
-none_defined : {X : Type 0} (pick : Entry → Option X) → ((n : ℕ) → pick (entry.Defines n) ≡ None) → (ns : List ℕ) → filter_map pick (map entry.Defines ns) ≡ []
+none_defined : {X : Type 0} (pick : Entry → Option X) → ((d : Definition) → pick (definition_entry d) ≡ None) → (ns : List Definition) → filter_map pick (map definition_entry ns) ≡ []
 none_defined pick none [] = refl
-none_defined pick none (n ∷ ns) = ap (λ o. cons_option o (filter_map pick (map entry.Defines ns))) (none n) ∙ none_defined pick none ns
+none_defined pick none (n ∷ ns) = ap (λ o. cons_option o (filter_map pick (map definition_entry ns))) (none n) ∙ none_defined pick none ns
 
-picked_directives : {X : Type 0} (pick : ℕ → Entry → Option X) (file : ℕ) → ((n : ℕ) → pick file (entry.Defines n) ≡ None)
-    → (names : List (List ℕ)) (layouts : ℕ → Layout) (starts : List Start) (places : List ℕ) (r : Result (List Directive) FileFault)
+picked_directives : {X : Type 0} (pick : ℕ → Entry → Option X) (file : ℕ) → ((d : Definition) → pick file (definition_entry d) ≡ None)
+    → (names : List (List ℕ)) (layouts : ℕ → Layout) (starts : List Start) (places : List Definition) (r : Result (List Directive) FileFault)
     → picked pick file (entries_of (entry_of names layouts starts file) places r) ≡ filter_map (pick file) (filter_map (entry_of names layouts starts file) (elim r [ Ok directives ↦ directives | Err fault ↦ [] ]))
 picked_directives pick file none names layouts starts places (Ok directives) =
-    filter_map-append (pick file) (filter_map (entry_of names layouts starts file) directives) (map entry.Defines places)
+    filter_map-append (pick file) (filter_map (entry_of names layouts starts file) directives) (map definition_entry places)
     ∙ ap (λ l. filter_map (pick file) (filter_map (entry_of names layouts starts file) directives) ++ l) (none_defined (pick file) none places)
     ∙ append-nil (filter_map (pick file) (filter_map (entry_of names layouts starts file) directives))
 picked_directives pick file none names layouts starts places (Err fault) = refl
 
 -- what a file's text defines
-abbrev definitions_of : Setting → Listing → ℕ → List ℕ
+abbrev definitions_of : Setting → Listing → ℕ → List Definition
 definitions_of setting listing file = text_definitions setting (phase_text setting.language (bytes_at listing file))
 
 pub picked_edges : (setting : Setting) (listing : Listing) (starts : List Start) (file : ℕ) → picked entry_edge file (file_entries setting listing starts file) ≡ edges_from setting listing starts file
@@ -67,9 +68,51 @@ pub picked_blockers : (setting : Setting) (listing : Listing) (defined : ℕ →
 picked_blockers setting listing defined starts file =
     picked_directives (entry_blocker defined) file (λ n. refl) setting.undefined (layouts_of setting listing) starts (definitions_of setting listing file) (read_directives setting listing file)
 
+-- an include directive defines nothing
+lead_defines : (file : ℕ) (hn : HeaderName) (lead : Lead) (line : ℕ) → entry_definition file (lead_entry lead line hn) ≡ None
+lead_defines file hn Nowhere line = refl
+lead_defines file hn (To to) line = refl
+lead_defines file hn Several line = refl
+
+name_defines : (file : ℕ) (o : Option ℕ) (line : ℕ) → entry_definition file (name_entry o line) ≡ None
+name_defines file None line = refl
+name_defines file (Some name) line = refl
+
+one_defines : (file : ℕ) (names : List (List ℕ)) (lead : Lead) (k : LineKind) (line : ℕ) (es : List Entry)
+    → filter_map (entry_definition file) (cons_option (entry_at names lead k line) es) ≡ filter_map (entry_definition file) es
+one_defines file names lead (Include by (Quoted name)) line es = ap (λ o. cons_option o (filter_map (entry_definition file) es)) (lead_defines file (header_of form.Quoted name) lead line)
+one_defines file names lead (Include by (Angled name)) line es = ap (λ o. cons_option o (filter_map (entry_definition file) es)) (lead_defines file (header_of form.Angled name) lead line)
+one_defines file names lead (Include by (ByName name)) line es = ap (λ o. cons_option o (filter_map (entry_definition file) es)) (name_defines file (undefined_place names name) line)
+one_defines file names lead (Include by Computed) line es = refl
+one_defines file names lead (Other Foreign) line es = refl
+one_defines file names lead _ line es = refl
+
+all_define : (file : ℕ) (names : List (List ℕ)) (layouts : ℕ → Layout) (starts : List Start) (ds : List Directive) → filter_map (entry_definition file) (filter_map (entry_of names layouts starts file) ds) ≡ []
+all_define file names layouts starts [] = refl
+all_define file names layouts starts (d ∷ ds) =
+    one_defines file names (leads layouts starts file d) d.kind d.line (filter_map (entry_of names layouts starts file) ds) ∙ all_define file names layouts starts ds
+
+definitions_are : (file : ℕ) (ds : List Definition) → filter_map (entry_definition file) (map definition_entry ds) ≡ definition_places file ds
+definitions_are file [] = refl
+definitions_are file (d ∷ ds) = ap (λ (l : List DirectiveId). record { file = file; line = d.line } ∷ l) (definitions_are file ds)
+
+entries_define : (file : ℕ) (names : List (List ℕ)) (layouts : ℕ → Layout) (starts : List Start) (ds : List Definition) (r : Result (List Directive) FileFault)
+    → picked entry_definition file (entries_of (entry_of names layouts starts file) ds r) ≡ definition_places file (elim r [ Ok directives ↦ ds | Err fault ↦ [] ])
+entries_define file names layouts starts ds (Ok directives) =
+    filter_map-append (entry_definition file) (filter_map (entry_of names layouts starts file) directives) (map definition_entry ds)
+    ∙ ap (λ l. l ++ filter_map (entry_definition file) (map definition_entry ds)) (all_define file names layouts starts directives)
+    ∙ definitions_are file ds
+entries_define file names layouts starts ds (Err fault) = refl
+
+-- the definitions of a file are where it defines names
+pub picked_definitions : (setting : Setting) (listing : Listing) (starts : List Start) (file : ℕ)
+    → picked entry_definition file (file_entries setting listing starts file) ≡ definitions_from setting listing file
+picked_definitions setting listing starts file =
+    entries_define file setting.undefined (layouts_of setting listing) starts (definitions_of setting listing file) (read_directives setting listing file)
+
 -- an include directive, and no definition
 abbrev pub included : Entry → Option Entry
-included (entry.Defines name) = None
+included (entry.Defines name line) = None
 included e = Some e
 
 lead_included : (hn : HeaderName) (lead : Lead) (line : ℕ) → included (lead_entry lead line hn) ≡ Some (lead_entry lead line hn)
@@ -190,16 +233,16 @@ All-filter_map : {X Y : Type 0} (P : Y → Type 0) (f : X → Option Y) → ((x 
 All-filter_map P f h [] = All-nil P
 All-filter_map P f h (x ∷ xs) = All-cons_option P (f x) (filter_map f xs) (h x) (All-filter_map P f h xs)
 
-defined_lead : (P : ℕ → Type 0) (ns : List ℕ) → All (Leads P) (map entry.Defines ns)
+defined_lead : (P : ℕ → Type 0) (ns : List Definition) → All (Leads P) (map definition_entry ns)
 defined_lead P [] = All-nil (Leads P)
-defined_lead P (n ∷ ns) = All-cons (Leads P) (entry.Defines n) (map entry.Defines ns) tt (defined_lead P ns)
+defined_lead P (n ∷ ns) = All-cons (Leads P) (definition_entry n) (map definition_entry ns) tt (defined_lead P ns)
 
-leads_of_directives : (names : List (List ℕ)) (files : ℕ) (layouts : ℕ → Layout) → ((path : ℕ) → length (layouts path).paths ≡ files) → (starts : List Start) (file : ℕ) (places : List ℕ) (r : Result (List Directive) FileFault) (es : List Entry)
+leads_of_directives : (names : List (List ℕ)) (files : ℕ) (layouts : ℕ → Layout) → ((path : ℕ) → length (layouts path).paths ≡ files) → (starts : List Start) (file : ℕ) (places : List Definition) (r : Result (List Directive) FileFault) (es : List Entry)
     → entries_of (entry_of names layouts starts file) places r ≡ Ok es → All (Leads (λ to. to < files)) es
 leads_of_directives names files layouts paths starts file places (Ok directives) es e =
-    let same : filter_map (entry_of names layouts starts file) directives ++ map entry.Defines places ≡ es = cc in
+    let same : filter_map (entry_of names layouts starts file) directives ++ map definition_entry places ≡ es = cc in
     subst (All (Leads (λ to. to < files))) same
-    (All-append (Leads (λ to. to < files)) (filter_map (entry_of names layouts starts file) directives) (map entry.Defines places)
+    (All-append (Leads (λ to. to < files)) (filter_map (entry_of names layouts starts file) directives) (map definition_entry places)
     (All-filter_map (Leads (λ to. to < files)) (entry_of names layouts starts file)
     (λ d. entry_leads (λ to. to < files) names (leads layouts starts file d) d.kind d.line (lead_within files layouts paths starts file d)) directives)
     (defined_lead (λ to. to < files) places))
@@ -247,3 +290,10 @@ pub blockers_stand : (setting : Setting) (listing : Listing) (defined : ℕ → 
 blockers_stand setting listing defined starts file =
     subst (λ bs. All (λ (b : Blocker). b.file ≡ file) bs) (picked_blockers setting listing defined starts file)
     (picked_in (λ (b : Blocker). b.file) (entry_blocker defined) (blocker_in defined) file (file_entries setting listing starts file))
+
+pub definitions_stand : (setting : Setting) (listing : Listing) (file : ℕ) → All (λ (d : DirectiveId). d.file ≡ file) (definitions_from setting listing file)
+definitions_stand setting listing file = all (file_definitions setting listing file)
+  where
+    all : (ds : List Definition) → All (λ (d : DirectiveId). d.file ≡ file) (definition_places file ds)
+    all [] = All-nil (λ (d : DirectiveId). d.file ≡ file)
+    all (d ∷ ds) = All-cons (λ (x : DirectiveId). x.file ≡ file) (record { file = file; line = d.line }) (definition_places file ds) refl (all ds)

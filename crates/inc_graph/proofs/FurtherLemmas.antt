@@ -12,7 +12,7 @@ use Rattle.inc_directive.specs.declared.files.FileFault.{FileFault}
 use Rattle.inc_lookup.specs.declared.projects.Form.TheVariants as form
 use Rattle.inc_lookup.specs.declared.projects.Found.{Found}
 use Rattle.inc_lookup.specs.Projects.{Layout}
-use Rattle.inc_graph.specs.FileEntries.{Entry}
+use Rattle.inc_graph.specs.FileEntries.{Definition, Entry, definition_entry}
 use Rattle.inc_graph.specs.declared.building.entries.Entry.TheVariants as entry
 use Rattle.inc_graph.specs.declared.graphs.BlockerKind.TheVariants as kind
 use Rattle.inc_graph.specs.HeaderNames.{HeaderName, header_of}
@@ -147,22 +147,22 @@ module _ (names : List (List ℕ)) (layouts : ℕ → Layout) (file : ℕ) (s : 
       one (Some f) = refl
 
   -- definitions that come after them stay
-  led_before : (ks : List ℕ) (d : Direct) (es : List Entry) → led_with (es ++ map entry.Defines ks) d ≡ led_with es d ++ map entry.Defines ks
+  led_before : (ks : List Definition) (d : Direct) (es : List Entry) → led_with (es ++ map definition_entry ks) d ≡ led_with es d ++ map definition_entry ks
   led_before ks d es = one (direct_found (layouts s.path) (found_so file s) d)
     where
-      one : (o : Option Found) → option_map_or (λ (f : Found). led_at d.index f.file (es ++ map entry.Defines ks)) o (es ++ map entry.Defines ks)
-          ≡ option_map_or (λ (f : Found). led_at d.index f.file es) o es ++ map entry.Defines ks
+      one : (o : Option Found) → option_map_or (λ (f : Found). led_at d.index f.file (es ++ map definition_entry ks)) o (es ++ map definition_entry ks)
+          ≡ option_map_or (λ (f : Found). led_at d.index f.file es) o es ++ map definition_entry ks
       one None = refl
       one (Some f) = led_ahead ks f.file es d.index
 
-  all_before : (ks : List ℕ) (directs : List Direct) (es : List Entry) → fold led_with (es ++ map entry.Defines ks) directs ≡ fold led_with es directs ++ map entry.Defines ks
+  all_before : (ks : List Definition) (directs : List Direct) (es : List Entry) → fold led_with (es ++ map definition_entry ks) directs ≡ fold led_with es directs ++ map definition_entry ks
   all_before ks [] es = refl
   all_before ks (d ∷ ds) es = ap (λ (l : List Entry). fold led_with l ds) (led_before ks d es) ∙ all_before ks ds (led_with es d)
 
   -- a file that is found in a further include path
-  pub entries_further : (places : List ℕ) (r : Result (List Directive) FileFault)
+  pub entries_further : (places : List Definition) (r : Result (List Directive) FileFault)
       → with_directs (layouts s.path) (found_so file s) (Some (entries_of (entry_of names layouts starts file) places r)) (directs_of r) ≡ Some (entries_of (entry_of names layouts (s ∷ starts) file) places r)
   entries_further places (Ok ds) =
-      led_all (entries_in names layouts starts file ds ++ map entry.Defines places) (directs_from 0 ds)
-      ∙ ap (λ (es : List Entry). Some (Ok es)) (all_before places (directs_from 0 ds) (entries_in names layouts starts file ds) ∙ ap (λ (l : List Entry). l ++ map entry.Defines places) (grown ds []))
+      led_all (entries_in names layouts starts file ds ++ map definition_entry places) (directs_from 0 ds)
+      ∙ ap (λ (es : List Entry). Some (Ok es)) (all_before places (directs_from 0 ds) (entries_in names layouts starts file ds) ∙ ap (λ (l : List Entry). l ++ map definition_entry places) (grown ds []))
   entries_further places (Err fault) = refl

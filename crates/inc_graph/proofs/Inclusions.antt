@@ -9,7 +9,7 @@ use Rattle.inc_directive.specs.Removal.{is_removable, stays, without}
 use Rattle.inc_directive.specs.Parts.{is_inclusion}
 use Rattle.inc_lookup.specs.DirectiveLists.{is_listed}
 use Rattle.inc_lookup.specs.Projects.{Layout}
-use Rattle.inc_graph.specs.FileEntries.{Entry}
+use Rattle.inc_graph.specs.FileEntries.{Definition, Entry, definition_entry}
 use Rattle.inc_graph.specs.declared.building.entries.Entry.TheVariants as entry
 use Rattle.inc_lookup.specs.declared.projects.Found.{Found}
 use Rattle.inc_graph.specs.IncludeGraph.{Lead, direct_header, named_place, found_by, entry_at, text_definitions, text_directives}
@@ -86,12 +86,12 @@ module _ (setting : Setting) (layout : Layout) (at : Found) (bytes : List ℕ) (
   read = ap (λ r. without (is_listed setting.removed at.file) r) (ap (file_directives setting.language) (sym spliced) ∙ found)
 
   -- what is kept of a file, by its directives that include
-  pub entries_read : (es : List Entry) (places : List ℕ) → es ≡ filter_map (entry_alone setting.undefined layout at) (filter (stays (is_listed setting.removed at.file)) (filter is_inclusion ds))
-      → places ≡ text_definitions setting (phase_text setting.language bytes) → bytes_entries setting (entry_alone setting.undefined layout at) at.file bytes ≡ Ok (es ++ map entry.Defines places)
+  pub entries_read : (es : List Entry) (places : List Definition) → es ≡ filter_map (entry_alone setting.undefined layout at) (filter (stays (is_listed setting.removed at.file)) (filter is_inclusion ds))
+      → places ≡ text_definitions setting (phase_text setting.language bytes) → bytes_entries setting (entry_alone setting.undefined layout at) at.file bytes ≡ Ok (es ++ map definition_entry places)
   entries_read es places kept defined =
       ap (entries_of (entry_alone setting.undefined layout at) (text_definitions setting (phase_text setting.language bytes))) read
-      ∙ ap (λ (ks : List ℕ). Ok (filter_map (entry_alone setting.undefined layout at) (filter (stays (is_listed setting.removed at.file)) ds) ++ map entry.Defines ks)) (sym defined)
-      ∙ ap (λ (l : List Entry). Ok (l ++ map entry.Defines places)) (sym (kept ∙ alone (entry_alone setting.undefined layout at) (λ d e. no_entry setting.undefined (found_lead (found_by layout at d)) d.kind d.line e) (stays (is_listed setting.removed at.file)) ds))
+      ∙ ap (λ (ks : List Definition). Ok (filter_map (entry_alone setting.undefined layout at) (filter (stays (is_listed setting.removed at.file)) ds) ++ map definition_entry ks)) (sym defined)
+      ∙ ap (λ (l : List Entry). Ok (l ++ map definition_entry places)) (sym (kept ∙ alone (entry_alone setting.undefined layout at) (λ d e. no_entry setting.undefined (found_lead (found_by layout at d)) d.kind d.line e) (stays (is_listed setting.removed at.file)) ds))
 
   -- what they find
   pub found_read : (old new : List Found) → Reaches old (filter_map (found_by layout at) (filter (stays (is_listed setting.removed at.file)) (filter is_inclusion ds))) new
@@ -142,7 +142,7 @@ directs_read setting file bytes text ds spliced found directs kept =
 ---- a bad file
 
 -- a bad file finds nothing
-bad_finds : (what : Directive → Option Entry) (layout : Layout) (at : Found) (places : List ℕ) (r : Result (List Directive) FileFault) (bad : FileFault) → Some (Err bad) ≡ Some (entries_of what places r)
+bad_finds : (what : Directive → Option Entry) (layout : Layout) (at : Found) (places : List Definition) (r : Result (List Directive) FileFault) (bad : FileFault) → Some (Err bad) ≡ Some (entries_of what places r)
     → (directives_found layout at r ≡ []) × (directs_of r ≡ [])
 bad_finds what layout at places (Ok ds) bad is = cc
 bad_finds what layout at places (Err fault) bad is = (refl, refl)

@@ -304,7 +304,7 @@ edge_of_entry file (entry.Edge to line) e is =
 edge_of_entry file (entry.Missing line header) e is = absurd (none-some e is)
 edge_of_entry file (entry.Blocker line why) e is = absurd (none-some e is)
 edge_of_entry file (entry.ByName name line) e is = absurd (none-some e is)
-edge_of_entry file (entry.Defines name) e is = absurd (none-some e is)
+edge_of_entry file (entry.Defines name line) e is = absurd (none-some e is)
 
 -- an edge is by a directive of its line that finds its file in one of these ways
 pub edge_at : (setting : Setting) (listing : Listing) (starts : List Start) (file : ℕ) (e : Edge) → Contains (edges_from setting listing starts file) e

@@ -14,7 +14,7 @@ use Rattle.inc_directive.specs.declared.files.FileFault.{FileFault}
 use Rattle.inc_lookup.specs.declared.projects.Form.TheVariants as form
 use Rattle.inc_lookup.specs.declared.projects.Found.{Found}
 use Rattle.inc_lookup.specs.Projects.{Layout}
-use Rattle.inc_graph.specs.FileEntries.{Entry}
+use Rattle.inc_graph.specs.FileEntries.{Definition, Entry, definition_entry}
 use Rattle.inc_graph.specs.declared.building.entries.Entry.TheVariants as entry
 use Rattle.inc_graph.specs.declared.graphs.BlockerKind.TheVariants as kind
 use Rattle.inc_graph.specs.HeaderNames.{HeaderName, header_of}
@@ -154,21 +154,21 @@ abbrev pub entries_in : List (List ℕ) → (layouts : ℕ → Layout) → List 
 entries_in names layouts starts file ds = filter_map (entry_of names layouts starts file) ds
 
 -- the definitions of a file
-abbrev defined : List ℕ → List Entry
-defined ks = map entry.Defines ks
+abbrev defined : List Definition → List Entry
+defined ks = map definition_entry ks
 
 -- an entry that leads to one file more, before them
-led_defined : (f : ℕ) (ks : List ℕ) (i : ℕ) → led_at i f (defined ks) ≡ defined ks
+led_defined : (f : ℕ) (ks : List Definition) (i : ℕ) → led_at i f (defined ks) ≡ defined ks
 led_defined f [] i = refl
 led_defined f (k ∷ ks) zero = refl
 led_defined f (k ∷ ks) (suc i) = one (slice_get (defined ks) i) (led_defined f ks i)
   where
     one : (o : Option Entry) → (elim o [ Some x ↦ set (defined ks) i (led_entry f x) | None ↦ defined ks ]) ≡ defined ks
-        → (elim o [ Some x ↦ entry.Defines k ∷ set (defined ks) i (led_entry f x) | None ↦ entry.Defines k ∷ defined ks ]) ≡ entry.Defines k ∷ defined ks
+        → (elim o [ Some x ↦ definition_entry k ∷ set (defined ks) i (led_entry f x) | None ↦ definition_entry k ∷ defined ks ]) ≡ definition_entry k ∷ defined ks
     one None e = refl
-    one (Some x) e = ap (λ (l : List Entry). entry.Defines k ∷ l) e
+    one (Some x) e = ap (λ (l : List Entry). definition_entry k ∷ l) e
 
-pub led_ahead : (ks : List ℕ) (f : ℕ) (es : List Entry) (i : ℕ) → led_at i f (es ++ defined ks) ≡ led_at i f es ++ defined ks
+pub led_ahead : (ks : List Definition) (f : ℕ) (es : List Entry) (i : ℕ) → led_at i f (es ++ defined ks) ≡ led_at i f es ++ defined ks
 led_ahead ks f [] i = led_defined f ks i
 led_ahead ks f (e ∷ es) zero = refl
 led_ahead ks f (e ∷ es) (suc i) = one (slice_get (es ++ defined ks) i) (slice_get es i) (led_ahead ks f es i)
@@ -273,22 +273,22 @@ module _ (names : List (List ℕ)) (layouts : ℕ → Layout) (file : ℕ) (s : 
       one (Some f) = refl
 
   -- definitions that come after them stay
-  led_before : (ks : List ℕ) (n : Next) (es : List Entry) → led_by s.next (es ++ map entry.Defines ks) n ≡ led_by s.next es n ++ map entry.Defines ks
+  led_before : (ks : List Definition) (n : Next) (es : List Entry) → led_by s.next (es ++ map definition_entry ks) n ≡ led_by s.next es n ++ map definition_entry ks
   led_before ks n es = one (next_found n s.next)
     where
-      one : (o : Option Found) → option_map_or (λ (f : Found). led_at n.index f.file (es ++ map entry.Defines ks)) o (es ++ map entry.Defines ks)
-          ≡ option_map_or (λ (f : Found). led_at n.index f.file es) o es ++ map entry.Defines ks
+      one : (o : Option Found) → option_map_or (λ (f : Found). led_at n.index f.file (es ++ map definition_entry ks)) o (es ++ map definition_entry ks)
+          ≡ option_map_or (λ (f : Found). led_at n.index f.file es) o es ++ map definition_entry ks
       one None = refl
       one (Some f) = led_ahead ks f.file es n.index
 
-  all_before : (ks : List ℕ) (nexts : List Next) (es : List Entry) → fold (led_by s.next) (es ++ map entry.Defines ks) nexts ≡ fold (led_by s.next) es nexts ++ map entry.Defines ks
+  all_before : (ks : List Definition) (nexts : List Next) (es : List Entry) → fold (led_by s.next) (es ++ map definition_entry ks) nexts ≡ fold (led_by s.next) es nexts ++ map definition_entry ks
   all_before ks [] es = refl
   all_before ks (n ∷ ns) es = ap (λ (l : List Entry). fold (led_by s.next) l ns) (led_before ks n es) ∙ all_before ks ns (led_by s.next es n)
 
   -- a file that is found in one way more
-  pub entries_more : (places : List ℕ) (r : Result (List Directive) FileFault)
+  pub entries_more : (places : List Definition) (r : Result (List Directive) FileFault)
       → with_nexts s.next (Some (entries_of (entry_of names layouts starts file) places r)) (nexts_of (layouts s.path) file r) ≡ Some (entries_of (entry_of names layouts (s ∷ starts) file) places r)
   entries_more places (Ok ds) =
-      followed_all (entries_in names layouts starts file ds ++ map entry.Defines places) (nexts_from (layouts s.path) file 0 ds)
-      ∙ ap (λ (es : List Entry). Some (Ok es)) (all_before places (nexts_from (layouts s.path) file 0 ds) (entries_in names layouts starts file ds) ∙ ap (λ (l : List Entry). l ++ map entry.Defines places) (grown ds []))
+      followed_all (entries_in names layouts starts file ds ++ map definition_entry places) (nexts_from (layouts s.path) file 0 ds)
+      ∙ ap (λ (es : List Entry). Some (Ok es)) (all_before places (nexts_from (layouts s.path) file 0 ds) (entries_in names layouts starts file ds) ∙ ap (λ (l : List Entry). l ++ map definition_entry places) (grown ds []))
   entries_more places (Err fault) = refl

@@ -70,7 +70,7 @@ entry_same names all same (entry.Edge to line) low = refl
 entry_same names all same (entry.Missing line header) low = ap (entry.Missing line) (same header low)
 entry_same names all same (entry.Blocker line kind) low = refl
 entry_same names all same (entry.ByName name line) low = refl
-entry_same names all same (entry.Defines name) low = refl
+entry_same names all same (entry.Defines name line) low = refl
 
 -- one more
 pub entry_pushed : (names all : List HeaderName) (es new : List (declared.Entry ℕ)) (e : declared.Entry ℕ) (seen : entries.Entry) → All (entries.HasName (length names)) es
@@ -86,7 +86,7 @@ plain_entry names (entry.Edge to line) none = refl
 plain_entry names (entry.Missing line header) none = absurd none
 plain_entry names (entry.Blocker line kind) none = refl
 plain_entry names (entry.ByName name line) none = refl
-plain_entry names (entry.Defines name) none = refl
+plain_entry names (entry.Defines name line) none = refl
 
 -- one with a name of its own
 pub missing_entry : (names all : List HeaderName) (es new : List (declared.Entry ℕ)) (line header : ℕ) (h : HeaderName) → All (entries.HasName (length names)) es → all ≡ names ++ h ∷ []
@@ -106,7 +106,7 @@ led_named names file (entry.Edge to line) = one (to == file)
 led_named names file (entry.Missing line header) = refl
 led_named names file (entry.Blocker line kind) = refl
 led_named names file (entry.ByName name line) = refl
-led_named names file (entry.Defines name) = refl
+led_named names file (entry.Defines name line) = refl
 
 pub led_within : (names : List HeaderName) (es : List (declared.Entry ℕ)) (index file : ℕ) (e led : declared.Entry ℕ) → index < length es → e ≡ get_or es index e → led ≡ led_entry file e
     → map (named_entry names) (set es index led) ≡ led_at index file (map (named_entry names) es)

@@ -9,11 +9,12 @@ use Rattle.inc_graph.specs.declared.building.Source.{Source}
 use Rattle.inc_graph.specs.Members.{is_member}
 use Rattle.inc_graph.specs.Settings.{Setting, layouts_of}
 use Rattle.inc_graph.specs.MissingLists.{Missing}
+use Rattle.inc_lookup.specs.declared.projects.DirectiveId.{DirectiveId}
 use Rattle.inc_lookup.specs.Projects.{Listing}
 use Rattle.inc_graph.specs.FileEntries.{Entry}
 use Rattle.inc_graph.specs.declared.graphs.Blocker.{Blocker}
 use Rattle.inc_graph.specs.declared.building.GraphRefusal.{GraphRefusal}
-use Rattle.inc_graph.specs.IncludeGraph.{Edge, Graph, Lead, entry_at, entry_of, entry_edge, entry_missing, entry_blocker, entries_from, edges_from, missing_from, blockers_from, graph_directives, IsClosure, is_found, inner_files, bad_file, graph_or_bad, graph_of_files, directive_count, is_defined_in, graph_answer, IsGraphAnswer, source_files, Start}
+use Rattle.inc_graph.specs.IncludeGraph.{Edge, Graph, Lead, entry_at, entry_of, entry_edge, entry_missing, entry_blocker, definitions_from, entries_from, edges_from, missing_from, blockers_from, graph_directives, IsClosure, is_found, inner_files, bad_file, graph_or_bad, graph_of_files, directive_count, is_defined_in, graph_answer, IsGraphAnswer, source_files, Start}
 use Rattle.inc_graph.specs.Reaching as reaching
 use Rattle.inc_graph.specs.Reaching.{alone, Reaching, AreReaching}
 use Rattle.inc_graph.specs.Chains.{is_walk, is_chain, is_before, ends_with, IsFirstShortest, IsShortest, IsShortestOrNone, AreChainsByLast, no_more, ends_one, ends_none}
@@ -59,8 +60,8 @@ same_entries setting listing a b f to from =
     filter_map_agree (entry_of setting.undefined (layouts_of setting listing) a f) (entry_of setting.undefined (layouts_of setting listing) b f)
     (λ d. ap (λ (lead : Lead). entry_at setting.undefined lead d.kind d.line) (same_leads (layouts_of setting listing) a b f d to from)) (graph_directives setting listing f)
 
-graph_with : Listing → (sources : List Source) → (headers : List ℕ) → List Edge → List Missing → List Blocker → Graph
-graph_with listing sources headers es ms bs = record { files = length listing.files; sources = source_files sources; headers = headers; edges = es; missing = ms; blockers = bs }
+graph_with : Listing → (sources : List Source) → (headers : List ℕ) → List DirectiveId → List Edge → List Missing → List Blocker → Graph
+graph_with listing sources headers ds es ms bs = record { files = length listing.files; sources = source_files sources; headers = headers; edges = es; missing = ms; blockers = bs; definitions = ds }
 
 same_graph : (setting : Setting) (listing : Listing) (sources : List Source) (headers : List ℕ) (a b : ℕ → List Start) → ((f : ℕ) → entries_from setting listing (a f) f ≡ entries_from setting listing (b f) f)
     → (files : List ℕ) → graph_of_files setting listing sources headers a files ≡ graph_of_files setting listing sources headers b files
@@ -69,10 +70,11 @@ same_graph setting listing sources headers a b same files =
     let es = flat_map_agree (λ f. edges_from setting listing (a f) f) (λ f. edges_from setting listing (b f) f) (λ f. ap (filter_map (entry_edge f)) (same f)) files in
     let ms = flat_map_agree (λ f. missing_from setting listing (a f) f) (λ f. missing_from setting listing (b f) f) (λ f. ap (filter_map (entry_missing f)) (same f)) files in
     let defined = is_defined_in setting listing files in
+    let ds = flat_map (definitions_from setting listing) files in
     let bs = flat_map_agree (λ f. blockers_from setting listing defined (a f) f) (λ f. blockers_from setting listing defined (b f) f) (λ f. ap (filter_map (entry_blocker defined f)) (same f)) files in
-    ap (λ x. graph_with listing sources headers x (flat_map (λ f. missing_from setting listing (a f) f) files) (flat_map (λ f. blockers_from setting listing defined (a f) f) files)) es
-    ∙ ap (λ x. graph_with listing sources headers (flat_map (λ f. edges_from setting listing (b f) f) files) x (flat_map (λ f. blockers_from setting listing defined (a f) f) files)) ms
-    ∙ ap (λ x. graph_with listing sources headers (flat_map (λ f. edges_from setting listing (b f) f) files) (flat_map (λ f. missing_from setting listing (b f) f) files) x) bs
+    ap (λ x. graph_with listing sources headers ds x (flat_map (λ f. missing_from setting listing (a f) f) files) (flat_map (λ f. blockers_from setting listing defined (a f) f) files)) es
+    ∙ ap (λ x. graph_with listing sources headers ds (flat_map (λ f. edges_from setting listing (b f) f) files) x (flat_map (λ f. blockers_from setting listing defined (a f) f) files)) ms
+    ∙ ap (λ x. graph_with listing sources headers ds (flat_map (λ f. edges_from setting listing (b f) f) files) (flat_map (λ f. missing_from setting listing (b f) f) files) x) bs
 
 same_answer : (setting : Setting) (listing : Listing) (sources : List Source) (headers : List ℕ) (a b : ℕ → List Start) → ((f : ℕ) → is_found (a f) ≡ is_found (b f))
     → ((f : ℕ) → entries_from setting listing (a f) f ≡ entries_from setting listing (b f) f)

@@ -12,13 +12,14 @@ use Rattle.inc_graph.specs.Members.{is_member}
 use Rattle.inc_graph.specs.Settings.{Setting}
 use Rattle.inc_graph.specs.MissingLists.{Missing}
 use Rattle.inc_lookup.specs.Projects.{Listing}
+use Rattle.inc_lookup.specs.declared.projects.DirectiveId.{DirectiveId}
 use Rattle.inc_lookup.specs.declared.projects.TheConstants.{MOST_FILES}
 use Rattle.inc_graph.specs.FileEntries.{Entry}
 use Rattle.inc_graph.specs.declared.building.entries.Entry.TheVariants as entry
 use Rattle.inc_graph.specs.declared.graphs.Blocker.{Blocker}
 use Rattle.inc_graph.specs.declared.graphs.Edge as declared
 use Rattle.inc_graph.specs.declared.graphs.Parts.{Parts}
-use Rattle.inc_graph.specs.IncludeGraph.{Edge, Graph, IsInner, AreEnds, IsSound, entry_edge, edges_from, missing_from, blockers_from, is_found, inner_files, is_defined_in, most_directives, graph_of_files, Start, source_files}
+use Rattle.inc_graph.specs.IncludeGraph.{Edge, Graph, IsInner, AreEnds, IsSound, entry_edge, edges_from, missing_from, blockers_from, definitions_from, is_found, inner_files, is_defined_in, most_directives, graph_of_files, Start, source_files}
 use Rattle.inc_graph.specs.Entries.{file_entries}
 use Rattle.inc_graph.specs.Views.{seen_edge, seen_parts, AreParts}
 use Rattle.inc_graph.specs.ClosureSearch.{AreStates}
@@ -28,7 +29,7 @@ use Rattle.inc_graph.proofs.AnswerLemmas.{empty_graph, graph_is, edges_few}
 use Rattle.inc_graph.proofs.DefinedNames.{flags_agree}
 use Rattle.inc_graph.proofs.EdgeOrder.{InOrder, in_order}
 use Rattle.inc_graph.proofs.MissingOrder.{missing_in_order}
-use Rattle.inc_graph.proofs.EntryLemmas.{entries_lead_within, picked_edges, edges_leave, missing_stand, blockers_stand}
+use Rattle.inc_graph.proofs.EntryLemmas.{entries_lead_within, picked_edges, edges_leave, missing_stand, blockers_stand, definitions_stand}
 
 ---- the edges of one file
 
@@ -37,7 +38,7 @@ edge_leads P file (entry.Edge to line) es h t = All-cons (λ (x : Edge). P x.to)
 edge_leads P file (entry.Missing line header) es h t = t
 edge_leads P file (entry.Blocker line why) es h t = t
 edge_leads P file (entry.ByName name line) es h t = t
-edge_leads P file (entry.Defines name) es h t = t
+edge_leads P file (entry.Defines name line) es h t = t
 
 edges_lead : (P : ℕ → Type 0) (file : ℕ) (es : List Entry) → All (Leads P) es → All (λ (x : Edge). P x.to) (filter_map (entry_edge file) es)
 edges_lead P file [] h = All-nil (λ (x : Edge). P x.to)
@@ -116,6 +117,7 @@ sound_graph setting listing sources headers ss h few ends sized =
       blockers_within =
           all_within (λ (b : Blocker). b.file) (λ f. blockers_from setting listing (is_defined_in setting listing (inner_files listing h.0 headers)) (h.0 f) f)
           (λ f. blockers_stand setting listing (is_defined_in setting listing (inner_files listing h.0 headers)) (h.0 f) f) listing h.0 headers;
+      definitions_within = all_within (λ (d : DirectiveId). d.file) (λ f. definitions_from setting listing f) (λ f. definitions_stand setting listing f) listing h.0 headers;
     }
 
 pub are_parts : (setting : Setting) (listing : Listing) (sources : List Source) (headers : List ℕ) (ss : List State) (p : Parts) → AreStates setting listing sources headers ss → length listing.files ≤ MOST_FILES

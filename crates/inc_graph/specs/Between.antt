@@ -20,6 +20,7 @@ between from to g = record {
   edges = filter (leaves_none to) g.edges;
   missing = [];
   blockers = [];
+  definitions = [];
 }
 
 -- the numbers of these edges in the graph

@@ -8,8 +8,7 @@ use Rattle.inc_directive.specs.declared.files.FileFault.{FileFault}
 use Rattle.inc_lookup.specs.declared.projects.Found.{Found}
 use Rattle.inc_lookup.specs.Projects.{Layout, Listing, bytes_at}
 use Rattle.inc_graph.specs.IncludeGraph.{Named, Lead, Nowhere, Start, with_found, text_definitions, text_directives, entry_at, entry_of, found_by}
-use Rattle.inc_graph.specs.FileEntries.{Entry}
-use Rattle.inc_graph.specs.declared.building.entries.Entry.TheVariants as entry
+use Rattle.inc_graph.specs.FileEntries.{Definition, Entry, definition_entry}
 use Rattle.inc_graph.specs.declared.building.file_entries.Direct.{Direct}
 use Rattle.inc_graph.specs.declared.building.file_entries.FileState.{FileState}
 use Rattle.inc_graph.specs.declared.building.file_entries.FileState.TheVariants.{Unread, Read, Bad}
@@ -26,11 +25,11 @@ found_lead found = with_found found Nowhere
 abbrev pub entry_alone : (names : List (List ℕ)) → Layout → Found → Directive → Option Entry
 entry_alone names layout at d = entry_at names (found_lead (found_by layout at d)) d.kind d.line
 
--- the include directives of a file with these directives, each as it is given, and after them the places of the names that the file
--- defines among those that no build defines; or its fault
-abbrev pub entries_of : (what : Directive → Option Entry) → (places : List ℕ) → Result (List Directive) FileFault → Result (List Entry) FileFault
-entries_of what places (Ok directives) = Ok (filter_map what directives ++ map entry.Defines places)
-entries_of what places (Err fault) = Err fault
+-- the include directives of a file with these directives, each as it is given, and after them its definitions of names that no build
+-- defines; or its fault
+abbrev pub entries_of : (what : Directive → Option Entry) → (definitions : List Definition) → Result (List Directive) FileFault → Result (List Entry) FileFault
+entries_of what definitions (Ok directives) = Ok (filter_map what directives ++ map definition_entry definitions)
+entries_of what definitions (Err fault) = Err fault
 
 -- those of a file with these bytes
 abbrev pub bytes_entries : Setting → (what : Directive → Option Entry) → ℕ → List ℕ → Result (List Entry) FileFault

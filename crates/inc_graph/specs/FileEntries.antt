@@ -9,13 +9,22 @@ use Rattle.inc_graph.specs.HeaderNames.{HeaderName, name_at, seen_name}
 abbrev pub Entry : Type 0
 Entry = declared.Entry HeaderName
 
+-- a line that defines a name that no build defines: the place of the name among those, and the physical line
+pub record Definition : Type 0 where
+  pub name : ℕ
+  pub line : ℕ
+
+-- what it is to the graph
+abbrev pub definition_entry : {H : Type 0} → Definition → declared.Entry H
+definition_entry d = Defines d.name d.line
+
 -- the same with another header
 abbrev pub with_header : {H K : Type 0} → (H → K) → declared.Entry H → declared.Entry K
 with_header other (Edge to line) = Edge to line
 with_header other (Missing line header) = Missing line (other header)
 with_header other (Blocker line kind) = Blocker line kind
 with_header other (ByName name line) = ByName name line
-with_header other (Defines name) = Defines name
+with_header other (Defines name line) = Defines name line
 
 -- an entry of the program as the definitions see it
 abbrev pub seen_entry : declared.Entry declared_name.HeaderName → Entry

@@ -35,7 +35,7 @@ first_refusal (bad ∷ more) = Some (BadFile bad.0 bad.1)
 
 -- it is an include directive, and no definition
 abbrev pub is_include : Entry → Bool
-is_include (entry.Defines name) = false
+is_include (entry.Defines name line) = false
 is_include _ = true
 
 -- how many include directives the files have, the empty ones aside
@@ -55,7 +55,7 @@ counted n = if nat_lt most_directives n then None else Some n
 
 -- it defines the name at this place
 abbrev pub defines : (name : ℕ) → Entry → Bool
-defines name (entry.Defines n) = n == name
+defines name (entry.Defines n line) = n == name
 defines name _ = false
 
 -- whether the flag at a place is set
@@ -75,7 +75,7 @@ with_entry defined file g (entry.Missing line header) = record g { missing = g.m
 with_entry defined file g (entry.Blocker line kind) = record g { blockers = g.blockers ++ record { file = file; line = line; kind = kind } ∷ [] }
 with_entry defined file g (entry.ByName name line) =
     if defined name then record g { blockers = g.blockers ++ record { file = file; line = line; kind = kind.Computed } ∷ [] } else g
-with_entry defined file g (entry.Defines name) = g
+with_entry defined file g (entry.Defines name line) = record g { definitions = g.definitions ++ record { file = file; line = line } ∷ [] }
 
 abbrev pub with_entries : (defined : ℕ → Bool) → ℕ → Graph → List Entry → Graph
 with_entries defined file g es = fold (with_entry defined file) g es

@@ -4,7 +4,7 @@
 --
 -- A source is read with an include path, and so is all that steps from it lead to. Where sources have several, the graph is the union of
 -- those of each include path: a directive to which two of them give different files is no edge and stops.
-use Rattle.std.specs.Prelude.{◌≡◌, ◌≢◌, ℕ, ◌+◌, ◌<◌, ◌≤◌, ◌==◌, ◌&&◌, ◌||◌, not, Bool, true, false, List, [], ◌∷◌, Option, Some, None, Result, Ok, Err, if◌then◌else◌, ◌++◌, fold, length, filter, filter_map, flat_map, nat_lt, bytes_eq, option_and_then, position, IsTrue, ◌↔◌, Contains, ⊤}
+use Rattle.std.specs.Prelude.{◌≡◌, ◌≢◌, ℕ, ◌+◌, ◌<◌, ◌≤◌, ◌==◌, ◌&&◌, ◌||◌, not, Bool, true, false, List, [], ◌∷◌, Option, Some, None, Result, Ok, Err, if◌then◌else◌, ◌++◌, fold, length, filter, filter_map, flat_map, map, nat_lt, bytes_eq, option_and_then, option_map, position, IsTrue, ◌↔◌, Contains, ⊤}
 use Rattle.std.specs.List.{All, list_all, list_any, range_with_len}
 use Rattle.std.specs.List.Sorted.{IsStrictlyIncreasing}
 use Rattle.inc_text.specs.PhaseText.{Cell, phase_text}
@@ -13,7 +13,7 @@ use Rattle.inc_graph.specs.Settings.{Setting, layouts_of}
 use Rattle.inc_token.specs.declared.kinds.IncludeName.{IncludeName}
 use Rattle.inc_token.specs.LineWalk.{lines_or_none}
 use Rattle.inc_token.specs.TokenLines.{token_lines}
-use Rattle.inc_directive.specs.Groups.{FileLine, file_lines}
+use Rattle.inc_directive.specs.Groups.{FileLine, directive_line, file_lines}
 use Rattle.inc_directive.specs.LineKinds.{LineKind, Include, Other, Quoted, Angled, ByName, Computed, defined_name, search_after}
 use Rattle.inc_directive.specs.declared.kinds.DirectiveKind.TheVariants.{Foreign}
 use Rattle.inc_directive.specs.FileDirectives.{Directive, file_directives}
@@ -24,13 +24,14 @@ use Rattle.inc_lookup.specs.declared.projects.Form.TheVariants as form
 use Rattle.inc_lookup.specs.declared.projects.Found.{Found}
 use Rattle.inc_lookup.specs.Projects.{Layout, Listing, path_at, bytes_at, found_place}
 use Rattle.inc_lookup.specs.DirectiveLists.{is_listed}
+use Rattle.inc_lookup.specs.declared.projects.DirectiveId.{DirectiveId}
 use Rattle.inc_lookup.specs.declared.projects.TheConstants.{MOST_FILES}
 use Rattle.inc_graph.specs.HeaderNames.{HeaderName, header_of}
 use Rattle.inc_graph.specs.declared.graphs.Blocker.{Blocker}
 use Rattle.inc_graph.specs.declared.missing_lists.Missing as declared_missing
 use Rattle.inc_graph.specs.MissingLists.{Missing}
 use Rattle.inc_graph.specs.declared.graphs.BlockerKind.TheVariants as kind
-use Rattle.inc_graph.specs.FileEntries.{Entry}
+use Rattle.inc_graph.specs.FileEntries.{Definition, Entry}
 use Rattle.inc_graph.specs.declared.building.entries.Entry.TheVariants as entry
 use Rattle.inc_graph.specs.declared.building.GraphRefusal.{GraphRefusal}
 use Rattle.inc_graph.specs.declared.building.Source.{Source}
@@ -74,22 +75,42 @@ direct_header _ = None
 abbrev pub undefined_place : (names : List (List ℕ)) → List ℕ → Option ℕ
 undefined_place names name = position (bytes_eq name) names
 
--- the places of such names that the lines of a file define, in whatever group they are
-abbrev pub places_defined : (names : List (List ℕ)) → List FileLine → List ℕ
-places_defined names lines = filter_map (λ (l : FileLine). option_and_then (undefined_place names) (defined_name l.kind l.tokens)) lines
+-- a line defines the name at this place
+abbrev pub defined_at : (line name : ℕ) → Definition
+defined_at line name = record { name = name; line = line }
+
+-- what a line defines, if it is such a name
+abbrev pub line_definition : (names : List (List ℕ)) → FileLine → Option Definition
+line_definition names l = option_map (defined_at (directive_line l)) (option_and_then (undefined_place names) (defined_name l.kind l.tokens))
+
+-- the definitions of such names by the lines of a file, in whatever group they are
+abbrev pub definitions_in : (names : List (List ℕ)) → List FileLine → List Definition
+definitions_in names lines = filter_map (line_definition names) lines
 
 -- those of a text
-abbrev pub text_definitions : Setting → List Cell → List ℕ
-text_definitions setting text = places_defined setting.undefined (file_lines setting.language (lines_or_none (token_lines setting.language text)))
+abbrev pub text_definitions : Setting → List Cell → List Definition
+text_definitions setting text = definitions_in setting.undefined (file_lines setting.language (lines_or_none (token_lines setting.language text)))
 
 -- those of a file; a bad file has none
-abbrev pub file_definitions : Setting → Listing → ℕ → List ℕ
+abbrev pub file_definitions : Setting → Listing → ℕ → List Definition
 file_definitions setting listing file =
     elim (read_directives setting listing file) [ Ok directives ↦ text_definitions setting (phase_text setting.language (bytes_at listing file)) | Err fault ↦ [] ]
 
+-- it is one of the name at this place
+abbrev pub is_of : (name : ℕ) → Definition → Bool
+is_of name d = d.name == name
+
 -- some of these files defines the name at this place
 abbrev pub is_defined_in : Setting → Listing → List ℕ → ℕ → Bool
-is_defined_in setting listing files name = list_any (λ f. list_any (λ n. n == name) (file_definitions setting listing f)) files
+is_defined_in setting listing files name = list_any (λ f. list_any (is_of name) (file_definitions setting listing f)) files
+
+-- where a file has these
+abbrev pub definition_places : (file : ℕ) → List Definition → List DirectiveId
+definition_places file ds = map (λ (d : Definition). record { file = file; line = d.line }) ds
+
+-- where a file defines such names, from the top
+abbrev pub definitions_from : Setting → Listing → ℕ → List DirectiveId
+definitions_from setting listing file = definition_places file (file_definitions setting listing file)
 
 ---- where a directive leads
 
@@ -185,6 +206,11 @@ entry_blocker defined file (entry.ByName name line) =
     if defined name then Some (record { file = file; line = line; kind = kind.Computed }) else None
 entry_blocker defined file _ = None
 
+-- where it is a definition
+abbrev pub entry_definition : ℕ → Entry → Option DirectiveId
+entry_definition file (entry.Defines name line) = Some (record { file = file; line = line })
+entry_definition file _ = None
+
 -- the edges that leave a file, from the top
 abbrev pub edges_from : Setting → Listing → (starts : List Start) → ℕ → List Edge
 edges_from setting listing starts file = filter_map (entry_edge file) (entries_from setting listing starts file)
@@ -279,6 +305,8 @@ pub record Graph : Type 0 where
   pub missing : List Missing
   -- the directives that leave open which file is read
   pub blockers : List Blocker
+  -- where its files define names that no build defines
+  pub definitions : List DirectiveId
 
 -- a bad file, with its fault
 abbrev pub bad_file : Setting → Listing → ℕ → Option (ℕ × FileFault)
@@ -301,6 +329,7 @@ graph_of_files setting listing sources headers starts files = record {
   edges = flat_map (λ f. edges_from setting listing (starts f) f) files;
   missing = flat_map (λ f. missing_from setting listing (starts f) f) files;
   blockers = flat_map (λ f. blockers_from setting listing (is_defined_in setting listing files) (starts f) f) files;
+  definitions = flat_map (definitions_from setting listing) files;
 }
 
 -- how many directives these files have
@@ -408,6 +437,8 @@ pub record IsSound (g : Graph) : Type 0 where
   pub missing_ordered : IsTrue (are_in_order g.missing)
   -- what stops is in a file
   pub blockers_within : All (λ (b : Blocker). b.file < g.files) g.blockers
+  -- and so is what defines a name
+  pub definitions_within : All (λ (d : DirectiveId). d.file < g.files) g.definitions
 
 -- the file that a refusal names is one of so many
 abbrev pub IsRefusalWithin : ℕ → GraphRefusal → Type 0

@@ -28,6 +28,7 @@ seen_parts p = record {
   edges = map seen_edge p.edges.items;
   missing = p.missing;
   blockers = p.blockers.items;
+  definitions = p.definitions.items;
 }
 
 -- the parts of a graph: its edges have their places as numbers and are in order of the files that they leave

@@ -52,6 +52,7 @@ impl Graph {
                 edges,
                 missing: MissingList::new(alloc),
                 blockers: Vec::new(alloc),
+                definitions: Vec::new(alloc),
             },
         )?;
         Ok(Between { graph, numbers })

@@ -156,6 +156,7 @@ impl Graph {
             edges: Vec::with_capacity(alloc, count)?,
             missing: MissingList::new(alloc),
             blockers: Vec::new(alloc),
+            definitions: Vec::new(alloc),
         };
         let defined = defined_names(alloc, &states, setting.undefined_count())?;
         add_states(&mut parts, project, &states, &defined)?;

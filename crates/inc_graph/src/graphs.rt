@@ -6,11 +6,12 @@ ghost use Rattle.inc_graph.specs.Indexes.{edges_leaving, AreFollowing};
 ghost use Rattle.inc_graph.specs.Members.{is_member};
 ghost use Rattle.inc_graph.specs.MissingLists.{Missing};
 ghost use Rattle.inc_graph.specs.Views.{numbered, seen_parts, AreParts};
+ghost use Rattle.inc_lookup.specs.declared.projects.DirectiveId as declared;
 
 use crate::file_sets::FileSet;
 use crate::indexes::starts_by_source;
 use crate::missing_lists::MissingList;
-use inc_lookup::FileId;
+use inc_lookup::{DirectiveId, FileId};
 use std::alloc::{AllocError, Global};
 use std::marker::Model;
 
@@ -92,6 +93,8 @@ pub(crate) struct Parts {
     pub edges: Vec<Edge>,
     pub missing: MissingList,
     pub blockers: Vec<Blocker>,
+    /// Where the files define names that no build defines.
+    pub definitions: Vec<DirectiveId>,
 }
 
 /// The include directives between sources and headers of a project, in whatever group they are. It is used with the project
@@ -227,5 +230,13 @@ impl Graph {
         ensures within { All (λ (b : Blocker). b.file < self.now.files) result.now }
     {
         &self.parts.blockers
+    }
+
+    /// Where the files that the graph was built of define names that no build defines, by file and line, in whatever group.
+    pub fn definitions(&self) -> &[DirectiveId]
+        ensures definitions { result.now ≡ self.now.definitions }
+        ensures within { All (λ (d : declared.DirectiveId). d.file < self.now.files) result.now }
+    {
+        &self.parts.definitions
     }
 }

@@ -30,4 +30,5 @@ pub mod QuestionLemmas
 pub mod SourceLemmas
 pub mod StepLemmas
 pub mod WordNotes
+mod WrittenBaselineLemmas
 pub mod WrittenLemmas

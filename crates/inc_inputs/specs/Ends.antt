@@ -166,6 +166,14 @@ grouped (Ok ss) (Ok gs) = Ok (record { from = ss; to = []; groups = gs })
 abbrev pub grouped_ends : Layout → Question → Result EndPaths Report
 grouped_ends layout q = grouped (words_paths layout Source q.from) (groups_of layout q.to)
 
+-- the source of a word, or those of the words of --from, and groups
+abbrev pub source_ends : Layout → Question → (source : Option (List ℕ)) → Result EndPaths Report
+source_ends layout q (Some s) = Ok (record { from = s ∷ []; to = []; groups = [] })
+source_ends layout q None = grouped_ends layout q
+
+abbrev pub tree_ends : Layout → Question → Result EndPaths Report
+tree_ends layout q = source_ends layout q q.source
+
 ---- a question
 
 abbrev pub is_empty : List (List ℕ) → Bool

@@ -33,3 +33,4 @@ pub mod Steps
 pub mod Texts
 pub mod UndefinedNames
 pub mod Views
+pub mod WrittenBaselines

@@ -91,6 +91,12 @@ no_most = record { message = codes "--max is a number"; status = 2 }
 abbrev pub no_top : Report
 no_top = record { message = codes "--top is a number"; status = 2 }
 
+abbrev pub of_alone : Report
+of_alone = record { message = codes "--of excludes --from, --to and --top"; status = 2 }
+
+abbrev pub folded_alone : Report
+folded_alone = record { message = codes "--format folded excludes --to and --top"; status = 2 }
+
 abbrev pub no_most_read : Report
 no_most_read = record { message = codes "--most-read is a number"; status = 2 }
 
@@ -114,6 +120,9 @@ two_builds = record { message = codes "-p and -- exclude each other"; status = 2
 
 abbrev pub no_command_source : Report
 no_command_source = record { message = codes "-- names no source"; status = 2 }
+
+abbrev pub two_baselines : Report
+two_baselines = record { message = codes "--baseline and --write-baseline exclude each other"; status = 2 }
 
 abbrev pub input_twice : Report
 input_twice = record { message = codes "standard input can be read only once"; status = 2 }
@@ -171,6 +180,10 @@ unfit_rule line = record { message = line; status = 4 }
 abbrev pub malformed_baseline : (name : List ℕ) → (line : ℕ) → Report
 malformed_baseline name line = record { message = shown name ++ codes ":" ++ decimal line ++ codes ": not PATH:NAME"; status = 4 }
 
+-- of a path that no line of a baseline can name
+abbrev pub no_name : (path : List ℕ) → Report
+no_name path = record { message = codes "no line of a baseline can name " ++ shown path; status = 4 }
+
 abbrev pub no_subject : Report
 no_subject = record { message = codes "no rule is about a file of the project"; status = 4 }
 
@@ -197,6 +210,8 @@ report_of failure.FormatOfFiles = format_of_files
 report_of failure.NoFormat = no_format
 report_of failure.NoMost = no_most
 report_of failure.NoTop = no_top
+report_of failure.OfAlone = of_alone
+report_of failure.FoldedAlone = folded_alone
 report_of failure.NoMostRead = no_most_read
 report_of failure.NoMostOutput = no_most_output
 report_of failure.NoScanFormat = no_scan_format
@@ -205,6 +220,7 @@ report_of failure.TwoLists = two_lists
 report_of failure.ListAndGlobs = list_and_globs
 report_of failure.TwoBuilds = two_builds
 report_of failure.NoCommandSource = no_command_source
+report_of failure.TwoBaselines = two_baselines
 report_of failure.NoEnds = no_ends
 report_of failure.NoHeaders = no_headers
 report_of (failure.BadGlob text) = record { message = text.items; status = 2 }

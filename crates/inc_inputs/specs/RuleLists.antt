@@ -1,5 +1,5 @@
 -- The rules that words give, as a file of them or as the words themselves, what may still break them, and the files that they are about.
-use Rattle.std.specs.Prelude.{◌≡◌, ℕ, List, [], ◌∷◌, ◌++◌, Option, Some, None, Result, Ok, Err, codes, filter, flat_map, unwrap_or}
+use Rattle.std.specs.Prelude.{◌≡◌, ℕ, ◌&&◌, Bool, true, false, List, [], ◌∷◌, ◌++◌, Option, Some, None, Result, Ok, Err, codes, filter, flat_map, is_some, unwrap_or}
 use Rattle.std.specs.List.{list_any}
 use Rattle.inc_lookup.specs.Projects.{Layout}
 use Rattle.inc_rules.specs.Rules.{Fault, Rule, is_left, rules_of}
@@ -7,9 +7,9 @@ use Rattle.inc_args.specs.Meaning.{RuleWords}
 use Rattle.inc_inputs.specs.Baselines.{Baseline, named_of}
 use Rattle.inc_inputs.specs.Ends.{EndPaths}
 use Rattle.inc_inputs.specs.Inputs.{Gives}
-use Rattle.inc_inputs.specs.Reports.{Report, input_twice, malformed_rules, no_rules, no_subject}
+use Rattle.inc_inputs.specs.Reports.{Report, input_twice, malformed_rules, no_file, no_rules, no_subject, two_baselines}
 use Rattle.inc_inputs.specs.Steps.{Step, comes_to, judged, reads, then}
-use Rattle.inc_inputs.specs.Texts.{are_twice, unless}
+use Rattle.inc_inputs.specs.Texts.{are_twice, names_input, unless_reported}
 
 -- words as the lines of a text
 abbrev pub lines_of_words : List (List ℕ) → List ℕ
@@ -47,9 +47,20 @@ ruled gives w rules =
 abbrev pub rules_by : {S : Type 0} → Gives S → RuleWords → (text : List ℕ) → Step S Ruled
 rules_by gives w text = then (judged (AreRules (rule_name w) text)) (λ rules. ruled gives w rules)
 
+-- a report where something is so, or that of what is looked at next
+abbrev pub reported_if : Bool → Report → (next : Option Report) → Option Report
+reported_if true r next = Some r
+reported_if false r next = next
+
+-- a baseline is read or written, it is written to a file, and standard input is read once at most
+abbrev pub words_report : RuleWords → Option Report
+words_report w =
+    reported_if (is_some w.baseline && is_some w.written) two_baselines
+    (reported_if (names_input w.written) no_file (reported_if (are_twice (w.file ∷ w.baseline ∷ [])) input_twice None))
+
 -- what words give
 abbrev pub rules_given : {S : Type 0} → Gives S → RuleWords → Step S Ruled
-rules_given gives w = unless (are_twice (w.file ∷ w.baseline ∷ [])) input_twice (then (rule_text gives w) (λ text. rules_by gives w text))
+rules_given gives w = unless_reported (words_report w) (then (rule_text gives w) (λ text. rules_by gives w text))
 
 -- a question about rules begins at the files that they are about, of which there must be one
 abbrev pub some_subjects : List (List ℕ) → Result EndPaths Report

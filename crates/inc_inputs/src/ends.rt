@@ -6,7 +6,7 @@ ghost use Rattle.inc_args.specs.Views.{seen_question};
 ghost use Rattle.inc_cost.specs.Costs as spec;
 ghost use Rattle.inc_graph.specs.FileSets.{AreFlags};
 ghost use Rattle.inc_lookup.specs.Projects.{found_as, path_at};
-ghost use Rattle.inc_inputs.specs.Ends.{alone, apart, are_ends, asked_ends, end_paths, ends_at, file_path, glob_paths, group_of, grouped_ends, groups_of, is_path_of, named_files, some_ends, some_group, stands_for, with_new, word_paths, words_paths};
+ghost use Rattle.inc_inputs.specs.Ends.{alone, apart, are_ends, asked_ends, end_paths, ends_at, file_path, glob_paths, group_of, grouped_ends, groups_of, is_path_of, named_files, some_ends, some_group, stands_for, tree_ends, with_new, word_paths, words_paths};
 ghost use Rattle.inc_inputs.specs.BothNotes.{both_by, both_lines, both_notes, end_notes};
 ghost use Rattle.inc_inputs.specs.BuildReports.{some_lines};
 ghost use Rattle.inc_inputs.specs.HeaderNames.{header_notes, header_path};
@@ -246,6 +246,44 @@ pub fn grouped_ends<'p>(
     match grouped(alloc, project, question) {
         Ok(ends) => with_notes(alloc, project, question, ends),
         Err(failure) => Err(failure),
+    }
+}
+
+/// The path of the source of a word, or what [`grouped_ends`] gives where there is none.
+pub fn tree_ends<'p>(
+    alloc: Global,
+    project: &'p Project<'_>,
+    question: &QuestionArgs<'p>,
+) -> Result<EndPaths<'p>, Failure>
+    ensures ends { seen_ends result ≢ Err out_of_memory →
+        seen_ends result ≡ tree_ends project.now (seen_question question.now) }
+    ensures notes { IfOk result (λ ends. ends.notes.items
+        ≡ header_notes project.now (seen_question question.now)) }
+{
+    match question.source {
+        Some(source) => one_source(alloc, project, question, source),
+        None => grouped_ends(alloc, project, question),
+    }
+}
+
+/// A source by its path.
+fn one_source<'p>(
+    alloc: Global,
+    project: &Project<'_>,
+    question: &QuestionArgs<'_>,
+    source: &'p str,
+) -> Result<EndPaths<'p>, Failure>
+    ensures ends { seen_ends result ≢ Err out_of_memory →
+        seen_ends result ≡ Ok (record { from = source.entry.now ∷ []; to = []; groups = [] }) }
+    ensures notes { IfOk result (λ ends. ends.notes.items
+        ≡ header_notes project.now (seen_question question.now)) }
+{
+    match one_path(alloc, source.as_bytes()) {
+        Ok(from) => {
+            let ends = noted(alloc, from, Vec::new(alloc), Vec::new(alloc));
+            with_notes(alloc, project, question, ends)
+        }
+        Err(_) => Err(Failure::NoMemory),
     }
 }
 

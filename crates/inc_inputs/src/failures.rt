@@ -1,6 +1,6 @@
 //! Why the program gives no answer, and what it reports of that.
 ghost use Rattle.std.specs.Prelude.{◌≡◌, ◌≢◌, ◌<◌, ◌++◌, [], IfOk, OnOk, map, slice_index_or, codes, decimal};
-ghost use Rattle.inc_inputs.specs.Reports.{about_option, bad_glob, baseline_report, fits_none, hex_digit, hindrance_text, malformed_baseline, malformed_rules, no_directive, no_line, out_of_memory, report_of, read_report, list_report, compiler_report, definitions_report, project_report, several_headers, shown, shown_byte};
+ghost use Rattle.inc_inputs.specs.Reports.{about_option, bad_glob, baseline_report, fits_none, hex_digit, hindrance_text, malformed_baseline, malformed_rules, no_directive, no_line, no_name, out_of_memory, report_of, read_report, list_report, compiler_report, definitions_report, project_report, several_headers, shown, shown_byte};
 
 use inc_check::CertFault;
 use inc_lookup::ProjectFault;
@@ -76,6 +76,10 @@ pub enum Failure {
     NoMost,
     /// How many headers and directives are printed at most is no number.
     NoTop,
+    /// One source is named, and others, groups of headers or how much is printed.
+    OfAlone,
+    /// Stacks are asked for, and groups of headers or how much is printed.
+    FoldedAlone,
     /// How many bytes are read at most is no number.
     NoMostRead,
     /// How many bytes are printed at most is no number.
@@ -90,6 +94,8 @@ pub enum Failure {
     TwoBuilds,
     /// A compiler's command names no source.
     NoCommandSource,
+    /// A baseline is to be read, and one to be written.
+    TwoBaselines,
     /// The words name no source and header, or name them in two ways.
     NoEnds,
     /// The words name no header, or name headers in two ways.
@@ -113,6 +119,7 @@ pub enum Failure {
     /// The words give no rules, or give them in two ways.
     NoRules,
     /// A line of a list of rules, or of a baseline, has none, or a rule has a glob that fits no file: the name of the list, the line, and why.
+    /// Or no line of a baseline can name a file: that, and its path.
     MalformedRules(Vec<u8>),
     /// No rule is about a file of the project.
     NoSubject,
@@ -327,6 +334,26 @@ pub(crate) fn not_undefined(alloc: Global, name: &str, said: &str) -> Failure
     }
 }
 
+/// The failure to report of a path that no line of a baseline can name.
+pub(crate) fn unnameable(alloc: Global, path: &[u8]) -> Failure
+    ensures { report_of result ≢ out_of_memory → report_of result ≡ no_name path.now }
+{
+    match unnameable_text(alloc, path) {
+        Ok(text) => Failure::MalformedRules(text),
+        Err(_) => Failure::NoMemory,
+    }
+}
+
+/// That no line of a baseline can name this path.
+fn unnameable_text(alloc: Global, path: &[u8]) -> Result<Vec<u8>, AllocError>
+    ensures { IfOk result (λ text. text.items ≡ codes "no line of a baseline can name " ++ shown path.now) }
+{
+    let mut text = Vec::new(alloc);
+    text.extend_from_slice(b"no line of a baseline can name ")?;
+    put_shown(&mut text, path)?;
+    Ok(text)
+}
+
 /// The failure to report of a word for a header in which several paths end, of two of these.
 pub(crate) fn several_headers(alloc: Global, word: &[u8], first: &[u8], second: &[u8]) -> Failure
     ensures { report_of result ≢ out_of_memory →
@@ -467,6 +494,8 @@ impl Failure {
             Failure::NoFormat => (b"--format is text, gcc, json or dot", b""),
             Failure::NoMost => (b"--max is a number", b""),
             Failure::NoTop => (b"--top is a number", b""),
+            Failure::OfAlone => (b"--of excludes --from, --to and --top", b""),
+            Failure::FoldedAlone => (b"--format folded excludes --to and --top", b""),
             Failure::NoMostRead => (b"--most-read is a number", b""),
             Failure::NoMostOutput => (b"--most-output is a number", b""),
             Failure::NoScanFormat => (b"--format of scan is text, gcc or json", b""),
@@ -475,6 +504,7 @@ impl Failure {
             Failure::ListAndGlobs => (b"--files and --exclude exclude each other", b""),
             Failure::TwoBuilds => (b"-p and -- exclude each other", b""),
             Failure::NoCommandSource => (b"-- names no source", b""),
+            Failure::TwoBaselines => (b"--baseline and --write-baseline exclude each other", b""),
             Failure::NoEnds => (b"name SOURCE and HEADER, or give --from and --to", b""),
             Failure::NoHeaders => (b"name HEADER, or give --to", b""),
             Failure::BadGlob(text)
@@ -507,6 +537,8 @@ impl Failure {
             | Failure::NoFormat
             | Failure::NoMost
             | Failure::NoTop
+            | Failure::OfAlone
+            | Failure::FoldedAlone
             | Failure::NoMostRead
             | Failure::NoMostOutput
             | Failure::NoScanFormat
@@ -515,6 +547,7 @@ impl Failure {
             | Failure::ListAndGlobs
             | Failure::TwoBuilds
             | Failure::NoCommandSource
+            | Failure::TwoBaselines
             | Failure::NoEnds
             | Failure::NoHeaders
             | Failure::BadGlob(_)

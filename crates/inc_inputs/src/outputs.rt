@@ -10,7 +10,7 @@ use crate::inputs::Inputs;
 use std::alloc::{AllocError, Global};
 
 /// Whether a word for a file to write names none.
-fn is_no_file(name: Option<&str>) -> bool
+pub(crate) fn is_no_file(name: Option<&str>) -> bool
     ensures { result ≡ names_input (option_map (λ n. n.now) name.entry) }
 {
     name == Some("-")

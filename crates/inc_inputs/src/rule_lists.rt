@@ -2,7 +2,7 @@
 ghost use Rattle.std.specs.Prelude.{◌≡◌, ◌≢◌, ◌++◌, ◌∷◌, [], Ok, Err, map, option_map, IfErr, IfOk, OnOk};
 ghost use Rattle.inc_args.specs.Views.{seen_rules};
 ghost use Rattle.inc_inputs.specs.Reports.{malformed_rules, out_of_memory, report_of};
-ghost use Rattle.inc_inputs.specs.RuleLists.{AreRules, lines_of_words, rule_ends, rule_name, rule_text, some_subjects};
+ghost use Rattle.inc_inputs.specs.RuleLists.{AreRules, lines_of_words, rule_ends, rule_name, rule_text, some_subjects, words_report};
 ghost use Rattle.inc_inputs.specs.RuleNotes.{ends_unless, first_of, rule_notes, strict_ends, unfit_lines};
 ghost use Rattle.inc_inputs.specs.Steps.{Comes};
 ghost use Rattle.inc_inputs.specs.Views.{end_paths_in, seen_ends, seen_text};
@@ -12,12 +12,30 @@ ghost use Rattle.inc_rules.specs.Views.{seen_rule};
 use crate::ends::EndPaths;
 use crate::failures::{Failure, rules_failure};
 use crate::inputs::Inputs;
+use crate::outputs::is_no_file;
 use crate::rule_notes::{first_unfit, rule_notes};
-use crate::texts::read_text;
+use crate::texts::{are_twice, read_text};
 use inc_args::RuleArgs;
 use inc_lookup::Project;
 use inc_rules::{Rule, RuleFault, read_rules, subjects};
 use std::alloc::{AllocError, Global};
+
+/// What is wrong with words for rules, whatever the files hold: a baseline is read and one is written, none is written to standard output, and
+/// standard input is read once.
+pub fn words_failure(words: &RuleArgs<'_>) -> Option<Failure>
+    ensures { option_map report_of result ≡ words_report (seen_rules words.now) }
+{
+    if words.baseline.is_some() && words.written.is_some() {
+        return Some(Failure::TwoBaselines);
+    }
+    if is_no_file(words.written) {
+        return Some(Failure::NoFile);
+    }
+    if are_twice(&[words.file, words.baseline]) {
+        return Some(Failure::InputTwice);
+    }
+    None
+}
 
 /// The text of the rules that words give: that of a file, or the words as lines.
 pub fn read_rule_text<I: Inputs>(

@@ -124,7 +124,7 @@ module _ (text : List Change → List ℕ) (q : Question) (l : Limits) (p : Prin
       let g : Graph = t.graph in
       let amounts : List ℕ = amounts_by layout g l.kept l.fixed l.costs in
       let known : IsKnown layout g = t.told.0 in
-      let u = unhindered_told layout g.blockers (marks_refusal layout g l.fixed l.costs) (AreChangesOf text q.language listing layout g amounts) p (stated_yes p end)
+      let u = unhindered_told layout g.definitions g.blockers (marks_refusal layout g l.fixed l.costs) (AreChangesOf text q.language listing layout g amounts) p (stated_yes p end)
       (unless_told layout (open_strays_of q g) (WithAmounts l (AreChangesOf text q.language listing) layout g) p (stated_yes p end) t.told.1) in
       elim u.1 [
         | inl cut ↦
@@ -155,7 +155,7 @@ module _ (text : List Change → List ℕ) (q : Question) (l : Limits) (p : Prin
   told_fixed end t =
       let g : Graph = t.graph in
       let amounts : List ℕ = amounts_by layout g l.kept l.fixed l.costs in
-      let u = unhindered_told layout g.blockers (marks_refusal layout g l.fixed l.costs) (AreChangesOf text q.language listing layout g amounts) p (stated_no p end)
+      let u = unhindered_told layout g.definitions g.blockers (marks_refusal layout g l.fixed l.costs) (AreChangesOf text q.language listing layout g amounts) p (stated_no p end)
       (unless_told layout (open_strays_of q g) (WithAmounts l (AreChangesOf text q.language listing) layout g) p (stated_no p end) t.told.1) in
       elim u.1 [
         | inl cut ↦ absurd (ends_apart p Answered Negative (ap (λ (r : Printed). r.end.kind) cut.2) end answered_negative)

@@ -115,7 +115,7 @@ module _ {S : Type 0} (gives : S → ℕ → Result (List ℕ) ReadFault → S �
               noted gives old new holds.given listing f holds.gave agrees (omega (arith, met_within (sizes gives) old new layout q graph p known holds f met, long, ap (λ (l : List ℕ). length l) none, length-replicate n nothing)) there
           by_given false unread = absurd (unread_never (sizes gives) old new layout q graph p known holds stated f met other unread)
 
-      sizes_same : (f : ℕ) → IsMet graph f → slice_index_or new.sizes.items f 0 ≡ slice_index_or (file_sizes listing graph.headers) f 0
+      pub sizes_same : (f : ℕ) → IsMet graph f → slice_index_or new.sizes.items f 0 ≡ slice_index_or (file_sizes listing graph.headers) f 0
       sizes_same f met =
           by_header (is_member f graph.headers) f met refl
           ∙ sym (sizes_at listing graph.headers f (omega (arith, met_within (sizes gives) old new layout q graph p known holds f met, laid_count layout listing laid)))

@@ -16,6 +16,7 @@ use Rattle.inc_graph.specs.declared.graphs.Blocker.{Blocker}
 use Rattle.inc_check.specs.declared.certificates.CountedMarks.{CountedMarks}
 use Rattle.inc_check.specs.Certificates.{marks_of, chain_marks, certificate_of}
 use Rattle.inc_check.specs.Texts.{line_text, lines_text, marks_text, times_text, chain_lines, cut_lines, chains_lines, certificate_text}
+use Rattle.inc_lookup.specs.declared.projects.DirectiveId.{DirectiveId}
 use Rattle.inc_report.specs.CutText.{WithAmounts, Unhindered, marks_refusal, reasoned}
 use Rattle.inc_report.specs.Fitting.{counted_as}
 use Rattle.inc_report.specs.MarkTexts.{list_text}
@@ -81,8 +82,8 @@ pub unhindered : (Then : Layout → Graph → List ℕ → Printed → Type 0) (
     → g.blockers ≡ [] → marks_fault layout g l.fixed l.costs ≡ None → amounts ≡ amounts_by layout g l.kept l.fixed l.costs → Then layout g amounts p
     → WithAmounts l Then layout g p
 unhindered Then layout g l amounts p none named same told =
-    by_parts layout g.blockers (marks_refusal layout g l.fixed l.costs) (Then layout g (amounts_by layout g l.kept l.fixed l.costs)) p none
+    by_parts layout g.definitions g.blockers (marks_refusal layout g l.fixed l.costs) (Then layout g (amounts_by layout g l.kept l.fixed l.costs)) p none
     (ap (option_and_then (reasoned layout g l.fixed l.costs)) named) (subst (λ (ns : List ℕ). Then layout g ns p) same told)
   where
-    by_parts : (at : Layout) (bs : List Blocker) (fault : Option (List ℕ × Refusal)) (Told : Printed → Type 0) (q : Printed) → bs ≡ [] → fault ≡ None → Told q → Unhindered at bs fault Told q
-    by_parts at bs fault Told q empty right is = rw (empty, right) is
+    by_parts : (at : Layout) (ds : List DirectiveId) (bs : List Blocker) (fault : Option (List ℕ × Refusal)) (Told : Printed → Type 0) (q : Printed) → bs ≡ [] → fault ≡ None → Told q → Unhindered at ds bs fault Told q
+    by_parts at ds bs fault Told q empty right is = rw (empty, right) is

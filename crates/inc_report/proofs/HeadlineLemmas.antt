@@ -26,7 +26,7 @@ use Rattle.inc_report.specs.CheckText.{verdict_printed, IsCheckOf}
 use Rattle.inc_report.specs.CutText.{WithAmounts, blocked, Unhindered, marks_refusal, IsCutOf, IsFixedPrinted}
 use Rattle.inc_report.specs.Fitting.{IsFitCutOf}
 use Rattle.inc_report.specs.Headline.{NeverReadAny, KeepsHeadersOut, IsWhollyFixed, CutHeadline, CheckHeadline}
-use Rattle.inc_report.specs.MissingNotes.{empty_notes}
+use Rattle.inc_report.specs.AnswerNotes.{empty_notes}
 use Rattle.inc_report.specs.NamedFiles.{headers_at, sources_at}
 use Rattle.inc_report.specs.Printed.{Printed}
 use Rattle.inc_report.specs.Questions.{Answer, IsAnswer, IsAnswerBy, WithFiles, WithGraph, OfGraph, IsRefusalOf, no_header, no_source}
@@ -57,9 +57,9 @@ never_reasoned : (reason : List ℕ) (r : Refusal) (p : Printed) → p ≡ refus
 unfolding IsStated
 never_reasoned reason r p is stated = stated (ap (λ (q : Printed). q.end.kind) is)
 
-never_blocked : (layout : Layout) (bs : List Blocker) (p : Printed) → p ≡ blocked layout bs → IsStated p → ⊥
+never_blocked : (layout : Layout) (ds : List DirectiveId) (bs : List Blocker) (p : Printed) → p ≡ blocked layout ds bs → IsStated p → ⊥
 unfolding IsStated
-never_blocked layout bs p is stated = stated (ap (λ (r : Printed). r.end.kind) is)
+never_blocked layout ds bs p is stated = stated (ap (λ (r : Printed). r.end.kind) is)
 
 never_missing : (layout : Layout) (ms : List Missing) (p : Printed) → p ≡ not_found layout ms → IsStated p → ⊥
 unfolding IsStated
@@ -129,10 +129,10 @@ module _ (Then : Answer) (q : Question) (listing : Listing) (p : Printed) (state
   pub told_of : IsAnswer Then q listing p → IsTold Then q listing p
   told_of is = told_files (sources_at (layout_of listing) q) (headers_at (layout_of listing) q.to) refl refl is
 
-pub unhindered_told : (layout : Layout) (bs : List Blocker) (fault : Option (List ℕ × Refusal)) (Told : Printed → Type 0) (p : Printed) → IsStated p → Unhindered layout bs fault Told p → (bs ≡ []) × Told p
-unhindered_told layout (b ∷ bs) fault Told p stated is = absurd (never_blocked layout (b ∷ bs) p is stated)
-unhindered_told layout [] (Some r) Told p stated is = absurd (never_reasoned r.0 r.1 p is stated)
-unhindered_told layout [] None Told p stated is = (refl, is)
+pub unhindered_told : (layout : Layout) (ds : List DirectiveId) (bs : List Blocker) (fault : Option (List ℕ × Refusal)) (Told : Printed → Type 0) (p : Printed) → IsStated p → Unhindered layout ds bs fault Told p → (bs ≡ []) × Told p
+unhindered_told layout ds (b ∷ bs) fault Told p stated is = absurd (never_blocked layout ds (b ∷ bs) p is stated)
+unhindered_told layout ds [] (Some r) Told p stated is = absurd (never_reasoned r.0 r.1 p is stated)
+unhindered_told layout ds [] None Told p stated is = (refl, is)
 
 -- what is stated is no refusal of directives whose header is not found
 pub unless_told : (layout : Layout) (ms : List Missing) (Told : Printed → Type 0) (p : Printed) → IsStated p → Unless layout ms Told p → Told p
@@ -187,7 +187,7 @@ check_headline q l text p given listing is end =
     let t = told_of (OfKnown (Strict (open_strays_of q) (WithAmounts l (IsCheckOf text)))) q listing p stated is.0 in
     let g : Graph = t.graph in
     let amounts : List ℕ = amounts_by layout g l.kept l.fixed l.costs in
-    let u = unhindered_told layout g.blockers (marks_refusal layout g l.fixed l.costs) (IsCheckOf text layout g amounts) p stated
+    let u = unhindered_told layout g.definitions g.blockers (marks_refusal layout g l.fixed l.costs) (IsCheckOf text layout g amounts) p stated
     (unless_told layout (open_strays_of q g) (WithAmounts l (IsCheckOf text) layout g) p stated t.told.1) in
     elim u.1 [
       | inl malformed ↦ absurd (never_refused (Malformed malformed.0) p malformed.2 stated)
@@ -195,16 +195,16 @@ check_headline q l text p given listing is end =
         verdict.0,
         verdict.2,
         keeps_out q l listing t.sources t.headers g verdict.0 t.sources_are t.headers_are t.graph_is t.told.0 u.0
-            (subst (IsVerdict layout g (fixed_by amounts) (costs_by amounts) verdict.0) (is_yes (empty_notes layout g.missing) verdict.1 p verdict.4 end) verdict.3),
+            (subst (IsVerdict layout g (fixed_by amounts) (costs_by amounts) verdict.0) (is_yes (empty_notes layout g) verdict.1 p verdict.4 end) verdict.3),
       )
     ]
 
 ---- a cut
 
-pub unhindered_all : (layout : Layout) (bs : List Blocker) (fault : Option (List ℕ × Refusal)) (A B : Printed → Type 0) (p : Printed) → (A p → B p) → Unhindered layout bs fault A p → Unhindered layout bs fault B p
-unhindered_all layout (b ∷ bs) fault A B p step is = is
-unhindered_all layout [] (Some r) A B p step is = is
-unhindered_all layout [] None A B p step is = step is
+pub unhindered_all : (layout : Layout) (ds : List DirectiveId) (bs : List Blocker) (fault : Option (List ℕ × Refusal)) (A B : Printed → Type 0) (p : Printed) → (A p → B p) → Unhindered layout ds bs fault A p → Unhindered layout ds bs fault B p
+unhindered_all layout ds (b ∷ bs) fault A B p step is = is
+unhindered_all layout ds [] (Some r) A B p step is = is
+unhindered_all layout ds [] None A B p step is = step is
 
 -- a cut that a text can hold is a cut
 fit_cut : (layout : Layout) (g : Graph) (amounts : List ℕ) (p : Printed) → IsFitCutOf layout g amounts p → IsCutOf layout g amounts p
@@ -213,7 +213,7 @@ fit_cut layout g amounts p is = elim is [ inl cut ↦ inl (cut.0, cut.1, cut.2, 
 pub fit_answer : (l : Limits) (layout : Layout) (g : Graph) (p : Printed) → WithAmounts l IsFitCutOf layout g p → WithAmounts l IsCutOf layout g p
 fit_answer l layout g p is =
     let amounts : List ℕ = amounts_by layout g l.kept l.fixed l.costs in
-    unhindered_all layout g.blockers (marks_refusal layout g l.fixed l.costs) (IsFitCutOf layout g amounts) (IsCutOf layout g amounts) p (fit_cut layout g amounts p) is
+    unhindered_all layout g.definitions g.blockers (marks_refusal layout g l.fixed l.costs) (IsFitCutOf layout g amounts) (IsCutOf layout g amounts) p (fit_cut layout g amounts p) is
 
 -- the same of a question, which may be strict
 pub fit_strictly : (q : Question) (l : Limits) (layout : Layout) (g : Graph) (p : Printed) → Strict (open_strays_of q) (WithAmounts l IsFitCutOf) layout g p
@@ -254,7 +254,7 @@ module _ (q : Question) (l : Limits) (p : Printed) (given : List Given) (listing
       let g : Graph = t.graph in
       let amounts : List ℕ = amounts_by layout g l.kept l.fixed l.costs in
       let known : IsKnown layout g = t.told.0 in
-      let u = unhindered_told layout g.blockers (marks_refusal layout g l.fixed l.costs) (IsFitCutOf layout g amounts) p (stated_yes p end)
+      let u = unhindered_told layout g.definitions g.blockers (marks_refusal layout g l.fixed l.costs) (IsFitCutOf layout g amounts) p (stated_yes p end)
       (unless_told layout (open_strays_of q g) (WithAmounts l IsFitCutOf layout g) p (stated_yes p end) t.told.1) in
       elim u.1 [
         | inl fit ↦
@@ -270,7 +270,7 @@ module _ (q : Question) (l : Limits) (p : Printed) (given : List Given) (listing
   told_none end t =
       let g : Graph = t.graph in
       let amounts : List ℕ = amounts_by layout g l.kept l.fixed l.costs in
-      let u = unhindered_told layout g.blockers (marks_refusal layout g l.fixed l.costs) (IsFitCutOf layout g amounts) p (stated_no p end)
+      let u = unhindered_told layout g.definitions g.blockers (marks_refusal layout g l.fixed l.costs) (IsFitCutOf layout g amounts) p (stated_no p end)
       (unless_told layout (open_strays_of q g) (WithAmounts l IsFitCutOf layout g) p (stated_no p end) t.told.1) in
       elim u.1 [
         | inl fit ↦ absurd (ends_apart p Answered Negative (ap (λ (q : Printed). q.end.kind) fit.4) end answered_negative)

@@ -13,6 +13,8 @@ use Rattle.inc_graph.specs.IncludeGraph.{Edge, Graph}
 use Rattle.inc_graph.specs.MissingLists.{Missing}
 use Rattle.inc_graph.specs.Reaching.{Reaching}
 use Rattle.inc_graph.specs.declared.graphs.Blocker.{Blocker}
+use Rattle.inc_report.specs.TreeJson.{branch_item, tree_json}
+use Rattle.inc_cost.specs.declared.branches.Branch.{Branch}
 use Rattle.inc_report.specs.CostJson.{bytes_text, cost_json, count_member, edge_item, group_item, header_item}
 use Rattle.inc_report.specs.CostText.{Amounts, Ranked}
 use Rattle.inc_report.specs.JsonAnswers.{About, blocked_text, blocker_text, blockers_text, chain_if, chains_text, counted_item, counted_text, cut_json, edge_text, edges_text, file_member, files_text, fixed_json, found_text, from_text, front_text, graph_json, links_text, missing_item, missing_text, named_form, names_text, numbered_text, place_text, sets_ends, shortest_text, source_item, sources_text, status_text, to_text, who_json, why_ends, why_json}
@@ -223,3 +225,12 @@ module _ (layout : Layout) (g : Graph) (k l : DirectiveId → LineKind) where
         ap₂ (λ (blocked directives : List ℕ). cost_ends r blocked directives (missing_text (by k))) (blockers_same g.blockers same.blockers)
         (ap list_of (each_same (edge_item (by k) r.saved) (edge_item (by l) r.saved) r.edges (cost_edge_same r.saved)))
         ∙ ap (cost_ends r (blocked_text (by l)) (list_of (map (edge_item (by l) r.saved) r.edges))) missing_same
+
+    tree_ends : (total : ℕ) → List Branch → (blocked missing : List ℕ) → List ℕ
+    tree_ends total bs blocked missing =
+        codes "{\"blocked\":" ++ blocked ++ codes "," ++ number_member (codes "bytes") total ++ codes ",\"command\":\"cost\",\"format\":1," ++ from_text (by k)
+        ++ codes ",\"missing\":" ++ missing ++ codes ",\"status\":0,\"tree\":" ++ list_of (map (branch_item (by k)) bs) ++ codes "}\n"
+
+    pub tree_same : (total : ℕ) (bs : List Branch) → tree_json (by k) total bs ≡ tree_json (by l) total bs
+    unfolding tree_ends
+    tree_same total bs = ap₂ (tree_ends total bs) (blockers_same g.blockers same.blockers) missing_same

@@ -14,6 +14,8 @@ use Rattle.inc_graph.specs.declared.graphs.Blocker.{Blocker}
 use Rattle.inc_graph.specs.declared.graphs.BlockerKind.{BlockerKind}
 use Rattle.inc_report.specs.Bounds.{first_of, left_out, more_words, shown_count}
 use Rattle.inc_report.specs.CutDocument.{chain_blocks, chains_from, cut_document, fixed_document, proof_blocks, shown_chains}
+use Rattle.inc_report.specs.TreeDocument.{branch_block, tree_document}
+use Rattle.inc_cost.specs.declared.branches.Branch.{Branch}
 use Rattle.inc_report.specs.CostDocument.{below, cost_document, edge_block, edge_blocks, group_block, group_blocks, group_words, header_block, header_blocks, led_edge}
 use Rattle.inc_report.specs.CostGroups.{Costed}
 use Rattle.inc_report.specs.CostText.{Amounts, Ranked}
@@ -227,6 +229,15 @@ module _ (kept : Kept) where
     groups_kept : (cs : List Costed) (places : List ℕ) → AreKept kept (flat_map (group_block cs) places)
     groups_kept cs [] = nothing
     groups_kept cs (i ∷ is) = both (group_block cs i) (flat_map (group_block cs) is) (group_if (slice_get cs i)) (groups_kept cs is)
+
+    branches_kept : (layout : Layout) (bs : List Branch) → AreKept kept (map (branch_block layout) bs)
+    branches_kept layout [] = nothing
+    branches_kept layout (b ∷ bs) = words_first _ (map (branch_block layout) bs) (branches_kept layout bs)
+
+    pub tree_kept : (layout : Layout) (total : ℕ) (bs : List Branch) → AreKept kept (tree_document layout g total bs)
+    tree_kept layout total bs =
+        words_first _ (map (branch_block layout) bs ++ unresolved_blocks true g)
+        (both (map (branch_block layout) bs) (unresolved_blocks true g) (branches_kept layout bs) (unresolved_kept true))
 
     cost_edge_kept : (words : List ℕ) (i : ℕ) (o : Option Edge) → slice_get g.edges i ≡ o → AreKept kept (option_map_or (led_edge words) o [])
     cost_edge_kept words i None is = nothing

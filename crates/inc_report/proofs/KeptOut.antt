@@ -14,7 +14,7 @@ use Rattle.inc_token.specs.declared.kinds.IncludeName.{IncludeName}
 use Rattle.inc_text.specs.declared.languages.Language.{Language}
 use Rattle.inc_directive.specs.FileDirectives.{Directive, file_directives}
 use Rattle.inc_directive.specs.Groups.{FileLine, Group, Empty, directive_line, lines_of}
-use Rattle.inc_directive.specs.LineKinds.{LineKind, Include, Other, Target, Quoted, Angled, ByName, Computed, defined_name, search_after}
+use Rattle.inc_directive.specs.LineKinds.{LineKind, Include, Other, Target, Quoted, Angled, ByName, Computed, defined_name, line_of_tokens, search_after}
 use Rattle.inc_directive.specs.declared.kinds.DirectiveKind.TheVariants.{Define}
 use Rattle.inc_directive.specs.Removal.{stays, without, with_removed}
 use Rattle.inc_directive.specs.declared.files.FileFault as declared
@@ -27,7 +27,7 @@ use Rattle.inc_graph.specs.declared.graphs.BlockerKind.{BlockerKind}
 use Rattle.inc_graph.specs.declared.graphs.BlockerKind.TheVariants as kind
 use Rattle.inc_graph.specs.Settings.{Setting, layouts_of, listing_in}
 use Rattle.inc_graph.specs.declared.building.Source.{Source}
-use Rattle.inc_graph.specs.IncludeGraph.{Edge, Graph, Start, IsClosure, IsReached, Lead, Nowhere, Several, To, as_source, bad_file, blockers_from, directive_count, edges_from, entries_from, entry_blocker, entry_of, file_definitions, found_by, graph_directives, graph_of_files, graph_or_bad, inner_files, is_defined_in, leads, name_entry, text_definitions, undefined_place}
+use Rattle.inc_graph.specs.IncludeGraph.{Edge, Graph, Start, IsClosure, IsReached, Lead, Nowhere, Several, To, as_source, bad_file, blockers_from, defined_at, directive_count, edges_from, entries_from, entry_blocker, entry_of, file_definitions, found_by, graph_directives, graph_of_files, graph_or_bad, inner_files, is_defined_in, is_of, leads, name_entry, text_definitions, undefined_place}
 use Rattle.inc_graph.specs.Between.{between}
 use Rattle.inc_graph.specs.Chains.{IsShortestOrNone, is_chain, is_walk, leaves, target}
 use Rattle.inc_graph.specs.Members.{is_member}
@@ -160,9 +160,9 @@ module _ (setting : Setting) (listing : Listing) (file : ℕ) (ds : List Directi
 
   -- a name that a line of the file defines is one of the definitions of the file
   definition_there : (l : FileLine) (name : List ℕ) (k : ℕ) → IsLineOf setting.language (lines_or_none (token_lines setting.language (phase_text setting.language (bytes_at listing file)))) l
-      → defined_name l.kind l.tokens ≡ Some name → undefined_place setting.undefined name ≡ Some k → Contains (file_definitions setting listing file) k
+      → defined_name l.kind l.tokens ≡ Some name → undefined_place setting.undefined name ≡ Some k → Contains (file_definitions setting listing file) (defined_at (line_of_tokens l.tokens) k)
   definition_there l name k line defines is =
-      subst (λ (r : Result (List Directive) declared.FileFault). Contains (elim (without (is_listed setting.removed file) r) [ Ok directives ↦ text_definitions setting (phase_text setting.language (bytes_at listing file)) | Err fault ↦ [] ]) k) (sym are)
+      subst (λ (r : Result (List Directive) declared.FileFault). Contains (elim (without (is_listed setting.removed file) r) [ Ok directives ↦ text_definitions setting (phase_text setting.language (bytes_at listing file)) | Err fault ↦ [] ]) (defined_at (line_of_tokens l.tokens) k)) (sym are)
       (place_there setting.language setting.undefined (lines_or_none (token_lines setting.language (phase_text setting.language (bytes_at listing file)))) l name k line defines is)
 
 -- a file whose directives have a fault is bad
@@ -315,8 +315,8 @@ module _ (setting : Setting) (listing : Listing) (sources : List Source) (header
       defines_other : (l : FileLine) → IsOf l → (name : List ℕ) → Absent name → defined_name l.kind l.tokens ≢ Some name
       defines_other l line name absent defines =
           both_ways (defined absent.0) absent.2
-          (any_there (λ f. list_any (λ n. n == absent.0) (file_definitions setting listing f)) files at.file (inner at a low)
-          (any_there (λ n. n == absent.0) (file_definitions setting listing at.file) absent.0
+          (any_there (λ f. list_any (is_of absent.0) (file_definitions setting listing f)) files at.file (inner at a low)
+          (any_there (is_of absent.0) (file_definitions setting listing at.file) (defined_at (line_of_tokens l.tokens) absent.0)
           (definition_there setting listing at.file ds are l name absent.0 line defines absent.1) (eq-eqb absent.0 absent.0 refl)))
 
       line_leads : (k : LineKind) (ts : List Tok) (line : ℕ) → Stays (is_listed cut at.file) ds k line

@@ -1,3 +1,4 @@
+mod BaselineLemmas
 pub mod KnownParts
 pub mod MissingNameLemmas
 pub mod NameKeyLemmas
@@ -22,6 +23,7 @@ pub mod DrawnRules
 pub mod JsonRules
 pub mod RuleBlocks
 pub mod RulesKept
+pub mod SarifLemmas
 pub mod NameOrder
 pub mod NameLemmas
 pub mod SourcePaths
@@ -68,3 +70,6 @@ pub mod CostBlocks
 pub mod CostLemmas
 pub mod CostGroupLemmas
 pub mod UsefulDirLemmas
+pub mod TreeReports
+pub mod StackLemmas
+pub mod TreeBlocks

@@ -8,6 +8,7 @@ use Rattle.inc_graph.specs.Marks.{Cost, Mark}
 use Rattle.inc_graph.specs.declared.fixing.FixedFault.{FixedFault}
 use Rattle.inc_graph.specs.declared.fixing.FixedFault.TheVariants as fault
 use Rattle.inc_graph.specs.declared.graphs.Blocker.{Blocker}
+use Rattle.inc_lookup.specs.declared.projects.DirectiveId.{DirectiveId}
 use Rattle.inc_report.specs.CutText.{Unhindered, marks_refusal, reasoned, refusal_of_fault}
 use Rattle.inc_report.specs.MarkReasons.{marks_reason}
 use Rattle.inc_report.specs.Printed.{Printed}
@@ -31,6 +32,6 @@ reasoned_is layout g marks costs f reason r named seen why =
     ∙ ap (λ (t : List ℕ). Some (t, r)) (sym why)
 
 -- is what is printed where no blocker is
-pub by_reason : (layout : Layout) (bs : List Blocker) (found : Option (List ℕ × Refusal)) (Then : Printed → Type 0) (reason : List ℕ) (r : Refusal) → bs ≡ [] → found ≡ Some (reason, r)
-    → Unhindered layout bs found Then (refusal_for reason r)
-by_reason layout bs found Then reason r none is = rw (none, is) refl
+pub by_reason : (layout : Layout) (ds : List DirectiveId) (bs : List Blocker) (found : Option (List ℕ × Refusal)) (Then : Printed → Type 0) (reason : List ℕ) (r : Refusal) → bs ≡ [] → found ≡ Some (reason, r)
+    → Unhindered layout ds bs found Then (refusal_for reason r)
+by_reason layout ds bs found Then reason r none is = rw (none, is) refl

@@ -23,9 +23,13 @@ use Rattle.inc_graph.specs.MarkedEdges.{amounts_by, marks_fault}
 use Rattle.inc_graph.specs.MissingLists.{Missing}
 use Rattle.inc_graph.specs.declared.fixing.FixedFault.{FixedFault}
 use Rattle.inc_graph.specs.declared.graphs.Blocker.{Blocker}
-use Rattle.inc_cost.proofs.SameWeights.{IsMet}
+use Rattle.inc_cost.proofs.SameWeights.{IsMet, total_same}
 use Rattle.inc_cost.proofs.Weighing.{contains_member, member_contains}
 use Rattle.inc_graph.proofs.Walks.{inner_edge}
+use Rattle.inc_report.specs.TreeDocument.{tree_document}
+use Rattle.inc_report.specs.TreeText.{tree_branches}
+use Rattle.inc_cost.specs.declared.branches.Branch.{Branch}
+use Rattle.inc_cost.proofs.TreeSame.{forest_same}
 use Rattle.inc_report.specs.CostDocument.{cost_document}
 use Rattle.inc_report.specs.CostText.{Ranked}
 use Rattle.inc_report.specs.CutDocument.{has_costs}
@@ -41,11 +45,11 @@ use Rattle.inc_report.specs.FileSizes.{file_size, file_sizes, kept_sizes}
 use Rattle.inc_report.specs.KeptFiles.{Fits, Kept, OfKept, keeps, kept_at}
 use Rattle.inc_report.specs.Known.{IsKnown}
 use Rattle.inc_report.specs.MarkReasons.{marks_reason}
-use Rattle.inc_report.specs.MissingNotes.{empty_notes}
+use Rattle.inc_report.specs.AnswerNotes.{empty_notes}
 use Rattle.inc_report.specs.NameTables.{NameSource}
 use Rattle.inc_report.specs.NamedHeadline.{HasGraph, NamedCutHeadline, NamedHeadline, NamedIsFixed, NamedKeepsHeadersOut, NamedRulesHeadline}
 use Rattle.inc_report.specs.NamedReasons.{Sight, named_reasons}
-use Rattle.inc_report.specs.NamedText.{IsCostReport, IsHinderedKept, IsInAnyFormat, IsInFormat, IsNamedAs, IsNamedBy, IsNamedKept, IsNamedOf, IsOfLayout, IsReport, IsReportOf, IsRuleReport, IsStrictKept, IsStrictOf, about, answer_document, answer_json, answer_lines, answer_text, blocked_as, command_name, given_sight, kept_sight, printed_answer, reason_in, refused_text, rules_answer, cost_answer, sight_kept}
+use Rattle.inc_report.specs.NamedText.{AreTreesReported, tree_answer, IsCostReport, IsHinderedKept, IsInAnyFormat, IsInFormat, IsNamedAs, IsNamedBy, IsNamedKept, IsNamedOf, IsOfLayout, IsReport, IsReportOf, IsRuleReport, IsStrictKept, IsStrictOf, about, answer_document, answer_json, answer_lines, answer_text, blocked_as, command_name, given_sight, kept_sight, printed_answer, reason_in, refused_text, rules_answer, cost_answer, sight_kept}
 use Rattle.inc_report.specs.Printed.{Printed, answered, answered_of, end_of, reached_kind, refused_for}
 use Rattle.inc_report.specs.Questions.{Answer, IsAnswerBy}
 use Rattle.inc_report.specs.Refusals.{Blocked, NotFound, Refusal, refusal_for, refusal_text}
@@ -73,8 +77,8 @@ use Rattle.inc_report.proofs.BlankLemmas.{all_kept}
 use Rattle.inc_report.proofs.CostLemmas.{size_by}
 use Rattle.inc_report.proofs.CutLemmas.{unhindered}
 use Rattle.inc_report.proofs.HeadlineLemmas.{IsTold, told_of, stated_other, stated_yes, stated_no, unhindered_all, unhindered_told, unless_told, ends_apart, answered_negative}
-use Rattle.inc_report.proofs.JsonKept.{AreSame, cost_same, cut_same, fixed_same, graph_same, items_same, rules_object, who_same, why_same}
-use Rattle.inc_report.proofs.KeptDirectives.{cost_kept, cut_kept, fixed_kept, links_kept, rules_kept, who_kept, why_kept}
+use Rattle.inc_report.proofs.JsonKept.{AreSame, cost_same, cut_same, fixed_same, graph_same, items_same, rules_object, tree_same, who_same, why_same}
+use Rattle.inc_report.proofs.KeptDirectives.{cost_kept, cut_kept, fixed_kept, links_kept, rules_kept, tree_kept, who_kept, why_kept}
 use Rattle.inc_report.proofs.DefinitionLemmas.{place_same}
 use Rattle.inc_report.proofs.KeptLemmas.{fits_given, fits_unread, holds_inner, kept_given, kept_is_given, kept_none, kept_ungiven}
 use Rattle.inc_report.proofs.KeptOut.{answered_cut_keeps_headers_out, of_names_once}
@@ -129,7 +133,7 @@ module _ (language : Language) (kept : Kept) (layout : Layout) (listing : Listin
       let same : bytes_at listing d.file ≡ bytes = fits d.file bytes is in
       rw is (ap (λ (bs : List ℕ). kind_at language bs d.line) (sym same))
 
-  kind_same : (d : DirectiveId) → IsTrue (is_some (kept_at kept d.file)) → kept_kind language kept d ≡ kind_of language listing d
+  pub kind_same : (d : DirectiveId) → IsTrue (is_some (kept_at kept d.file)) → kept_kind language kept d ≡ kind_of language listing d
   kind_same d there = kind_there d (kept_at kept d.file) refl there
 
   name_same : (d : DirectiveId) → IsTrue (is_some (kept_at kept d.file)) → kept_name language kept d ≡ name_of language listing d
@@ -217,7 +221,7 @@ module _ (language : Language) (kept : Kept) (layout : Layout) (listing : Listin
         by Json = object_same (end_kind form.fails answer) form.all answer
         by Dot = refl
 
-    rules_same : (format : Format) (name : List ℕ) (js : List Judged)
+    pub rules_same : (format : Format) (name : List ℕ) (js : List Judged)
         → rules_answer format name (kept_about language kept layout g) js ≡ rules_answer format name (about language listing layout g) js
     rules_same Gcc name js = text_same (rules_document name layout g js) (rules_kept kept g held name layout js)
     rules_same Json name js = rules_object layout g (kept_kind language kept) (kind_of language listing) all_same (rules_kind js) name js
@@ -255,8 +259,25 @@ module _ (language : Language) (kept : Kept) (layout : Layout) (listing : Listin
     costs_told laid files sound form w p r = (
       r.0,
       ranked_same layout g (kept_sizes kept (length layout.paths)) (file_sizes listing g.headers) (sizes_kept laid files sound) w.most w.groups r.0 r.1,
-      r.2 ∙ ap (answered_of (empty_notes layout g.missing)) (cost_answers form.format r.0),
+      r.2 ∙ ap (answered_of (empty_notes layout g)) (cost_answers form.format r.0),
     )
+
+    tree_answers : (format : Format) (total : ℕ) (bs : List Branch) → tree_answer format (kept_about language kept layout g) total bs ≡ tree_answer format (about language listing layout g) total bs
+    tree_answers Gcc total bs = text_same (tree_document layout g total bs) (tree_kept kept g held layout total bs)
+    tree_answers Json total bs = tree_same layout g (kept_kind language kept) (kind_of language listing) all_same total bs
+    tree_answers Dot total bs = refl
+
+    pub trees_told : layout_of listing ≡ layout → g.files ≡ length layout.paths → IsSound g → (form : NamedForm) (p : Printed)
+        → AreTreesReported form (kept_sizes kept (length layout.paths)) (kept_about language kept layout g) p → AreTreesReported form (file_sizes listing g.headers) (about language listing layout g) p
+    trees_told laid files sound form p r =
+        let old : List ℕ = kept_sizes kept (length layout.paths) in
+        let new : List ℕ = file_sizes listing g.headers in
+        let same = sizes_kept laid files sound in (
+          r.0,
+          total_same g old new same [] r.0 r.1,
+          r.2 ∙ ap (answered_of (empty_notes layout g))
+              (ap (tree_answer form.format (kept_about language kept layout g) r.0) (forest_same g old new sound same) ∙ tree_answers form.format r.0 (tree_branches new g)),
+        )
 
     pub rules_told : (form : NamedForm) (l : RuleList) (p : Printed) → IsRuleReport form l (kept_about language kept layout g) p
         → IsRuleReport form l (about language listing layout g) p
@@ -270,10 +291,10 @@ module _ (language : Language) (kept : Kept) (layout : Layout) (listing : Listin
 
 ---- formats
 
-negative_refused : Negative ≡ Refused → ⊥
+pub negative_refused : Negative ≡ Refused → ⊥
 negative_refused same = cc
 
-answered_refused : Answered ≡ Refused → ⊥
+pub answered_refused : Answered ≡ Refused → ⊥
 answered_refused same = cc
 
 -- an answer stays
@@ -297,7 +318,7 @@ module _ (form : NamedForm) (q : Question) (kind : DirectiveId → LineKind) (a 
   reason_same reason (Blocked layout bs) = reasons_same by_a by_b same q.language q.undefined layout bs (λ k d low. refl)
   reason_same reason _ = refl
 
-  format_same : (layout : Layout) (plain p : Printed) → IsInFormat form q layout by_a plain p → IsInFormat form q layout by_b plain p
+  pub format_same : (layout : Layout) (plain p : Printed) → IsInFormat form q layout by_a plain p → IsInFormat form q layout by_b plain p
   format_same layout plain p (inl r) = inl (r.0, r.1, r.2, r.3, r.4 ∙ ap (λ (x : List ℕ). refused_for x (refused_text form kind r.1)) (reason_same r.0 r.1))
   format_same layout plain p (inr stated) = inr stated
 
@@ -399,17 +420,17 @@ module _ (form : NamedForm) (q : Question) (s : Subject) where
 ---- what hinders a cut
 
 module _ (form : NamedForm) (q : Question) (l : Limits) (s : Subject) (held : AreGraphKept s.graph.now s.files.now) (p : Printed) where
-  by_blockers : (bs : List Blocker) (fault : Option (List ℕ × Refusal)) → bs ≢ [] → Unhindered s.project.now bs fault (λ r. ⊥) (blocked s.project.now bs)
-  by_blockers [] fault some = absurd (some refl)
-  by_blockers (b ∷ bs) fault some = refl
+  by_blockers : (ds : List DirectiveId) (bs : List Blocker) (fault : Option (List ℕ × Refusal)) → bs ≢ [] → Unhindered s.project.now ds bs fault (λ r. ⊥) (blocked s.project.now ds bs)
+  by_blockers ds [] fault some = absurd (some refl)
+  by_blockers ds (b ∷ bs) fault some = refl
 
   -- by blockers
   pub by_all : s.graph.now.blockers ≢ [] → p ≡ blocked_as form q s → IsHinderedKept form q l s p
   by_all some is = (
-    blocked s.project.now s.graph.now.blockers,
-    by_blockers s.graph.now.blockers (marks_refusal s.project.now s.graph.now l.fixed l.costs) some,
+    blocked s.project.now s.graph.now.definitions s.graph.now.blockers,
+    by_blockers s.graph.now.definitions s.graph.now.blockers (marks_refusal s.project.now s.graph.now l.fixed l.costs) some,
     λ listing laid fits. inl (
-      blocked_reasons s.project.now s.graph.now.blockers,
+      blocked_reasons s.project.now s.graph.now.definitions s.graph.now.blockers,
       Blocked s.project.now s.graph.now.blockers,
       refl,
       refl,
@@ -423,7 +444,7 @@ module _ (form : NamedForm) (q : Question) (l : Limits) (s : Subject) (held : Ar
       → IsInAnyFormat form (refusal_for reason (seen_refusal r)) p → IsHinderedKept form q l s p
   by_mark fault reason r none named seen why is = (
     refusal_for reason (seen_refusal r),
-    by_reason s.project.now s.graph.now.blockers (marks_refusal s.project.now s.graph.now l.fixed l.costs) (λ x. ⊥) reason (seen_refusal r) none
+    by_reason s.project.now s.graph.now.definitions s.graph.now.blockers (marks_refusal s.project.now s.graph.now l.fixed l.costs) (λ x. ⊥) reason (seen_refusal r) none
         (reasoned_is s.project.now s.graph.now l.fixed l.costs fault reason (seen_refusal r) named seen why),
     λ listing laid fits. is q s.project.now (kept_sight s.language listing s.project.now s.files.now),
   )
@@ -492,6 +513,16 @@ module _ (form : NamedForm) (q : Question) (d : Details) (s : Subject) (held : A
     ),
   )
 
+  pub tree_report : form.asked ≡ ask.Tree → s.graph.now.files ≡ length own.paths → IsSound s.graph.now → AreTreesReported form (kept_sizes s.files.now (length own.paths)) (about_subject s) p
+      → IsNamedKept form q d s p
+  tree_report is files sound r = (
+    p,
+    λ listing laid fits. (
+      subst (λ (a : Asked). Then a listing) (sym is) (trees_told s.language s.files.now own listing fits s.graph.now held laid files sound form p r),
+      answer_format form q own (kept_sight s.language listing own s.files.now) p (λ same. answered_refused (sym (ap (λ (x : Printed). x.end.kind) r.2) ∙ same)),
+    ),
+  )
+
   pub cut_report : (costed : Bool) (amounts : List ℕ) → form.asked ≡ ask.Cut → costed ≡ has_costs d.limits.costs → s.graph.now.blockers ≡ [] → marks_fault own s.graph.now d.limits.fixed d.limits.costs ≡ None
       → amounts ≡ amounts_by own s.graph.now d.limits.kept d.limits.fixed d.limits.costs → IsReport (is_whole q) ask.Cut form costed (about_subject s) amounts p → IsNamedKept form q d s p
   cut_report costed amounts is same none named fixed r =
@@ -501,12 +532,12 @@ module _ (form : NamedForm) (q : Question) (d : Details) (s : Subject) (held : A
 
   -- what hinders it
   abbrev Hindered : Printed → Type 0
-  Hindered x = Unhindered own s.graph.now.blockers (marks_refusal own s.graph.now d.limits.fixed d.limits.costs) (λ r. ⊥) x
+  Hindered x = Unhindered own s.graph.now.definitions s.graph.now.blockers (marks_refusal own s.graph.now d.limits.fixed d.limits.costs) (λ r. ⊥) x
 
   hindered_as : (listing : Listing) (plain : Printed) → form.asked ≡ ask.Cut → Hindered plain → IsNamedOf (is_whole q) form d s.language listing own s.graph.now plain
   hindered_as listing plain is h =
       subst (λ (a : Asked). IsNamedAs (is_whole q) a form d s.language listing own s.graph.now plain) (sym is)
-      (unhindered_all own s.graph.now.blockers (marks_refusal own s.graph.now d.limits.fixed d.limits.costs) (λ r. ⊥)
+      (unhindered_all own s.graph.now.definitions s.graph.now.blockers (marks_refusal own s.graph.now d.limits.fixed d.limits.costs) (λ r. ⊥)
       (IsReportOf (is_whole q) ask.Cut form (has_costs d.limits.costs) s.language listing own s.graph.now (amounts_by own s.graph.now d.limits.kept d.limits.fixed d.limits.costs)) plain (λ none. absurd none) h)
 
   pub hindered : form.asked ≡ ask.Cut → IsHinderedKept form q d.limits s p → IsNamedKept form q d s p
@@ -715,7 +746,7 @@ module _ (form : NamedForm) (q : Question) (d : Details) (p : Printed) (given : 
           let same : p ≡ is.0 = kind_is Answered end (λ k. cc) in
           let at : is.0.end.kind ≡ Answered = sym (ap (λ (r : Printed). r.end.kind) same) ∙ end in
           let t = told_of AsCut q listing is.0 (stated_yes is.0 at) is.1.0 in
-          let u = unhindered_told layout t.graph.blockers (marks_refusal layout t.graph d.limits.fixed d.limits.costs)
+          let u = unhindered_told layout t.graph.definitions t.graph.blockers (marks_refusal layout t.graph d.limits.fixed d.limits.costs)
           (IsReportOf (is_whole q) ask.Cut as_cut (has_costs d.limits.costs) q.language listing layout t.graph (amounts_by layout t.graph d.limits.kept d.limits.fixed d.limits.costs)) is.0 (stated_yes is.0 at)
           (unless_told layout (open_strays_of q t.graph) (IsNamedAs (is_whole q) ask.Cut as_cut d q.language listing layout t.graph) is.0 (stated_yes is.0 at) t.told) in
           keeps_out is.0 same t u.1.0 end u.0 u.1.1 u.1.2
@@ -725,7 +756,7 @@ module _ (form : NamedForm) (q : Question) (d : Details) (p : Printed) (given : 
           let same : p ≡ is.0 = kind_is Negative end (λ k. cc) in
           let at : is.0.end.kind ≡ Negative = sym (ap (λ (r : Printed). r.end.kind) same) ∙ end in
           let t = told_of AsCut q listing is.0 (stated_no is.0 at) is.1.0 in
-          let u = unhindered_told layout t.graph.blockers (marks_refusal layout t.graph d.limits.fixed d.limits.costs)
+          let u = unhindered_told layout t.graph.definitions t.graph.blockers (marks_refusal layout t.graph d.limits.fixed d.limits.costs)
           (IsReportOf (is_whole q) ask.Cut as_cut (has_costs d.limits.costs) q.language listing layout t.graph (amounts_by layout t.graph d.limits.kept d.limits.fixed d.limits.costs)) is.0 (stated_no is.0 at)
           (unless_told layout (open_strays_of q t.graph) (IsNamedAs (is_whole q) ask.Cut as_cut d q.language listing layout t.graph) is.0 (stated_no is.0 at) t.told) in
           is_fixed is.0 same t u.1.0 end u.1.1 u.1.2
@@ -755,3 +786,4 @@ named_headline form q d p given listing is = by form.asked is
     by ask.Cut given' = cut_headline form q d p given listing given'
     by ask.Rules given' = rules_promise form q d p given listing given'
     by ask.Cost given' = tt
+    by ask.Tree given' = tt

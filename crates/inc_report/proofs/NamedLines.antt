@@ -1,6 +1,6 @@
 -- The tokens of a line that includes by a name, and the names that no build and no file defines.
 use Rattle.std.proofs.Common.{◌≡◌, ℕ, zero, suc, ◌+◌, ◌<◌, arith, Bool, true, false, List, [], ◌∷◌, ◌++◌, Option, Some, None, Result, Ok, Err, IfOk, bytes_eq, codes, drop, length, get_or, inl, inr, refl, sym, ap, ◌∙◌, subst, if◌then◌else◌}
-use Rattle.std.specs.Prelude.{Contains, IsTrue, fold, not, ◌||◌, option_and_then}
+use Rattle.std.specs.Prelude.{Contains, IsTrue, fold, not, ◌||◌, option_and_then, option_map}
 use Rattle.std.specs.List.{list_all, list_any}
 use Rattle.std.proofs.lemmas.Bool.{and_parts, cases_Bool, cond_both, not-true, not_from_false, or_from, or_left, or_parts, or_right}
 use Rattle.std.proofs.lemmas.List.Folds.{list_any-append}
@@ -20,13 +20,13 @@ use Rattle.inc_text.specs.declared.languages.Language.TheVariants.{C17, Extended
 use Rattle.inc_token.specs.declared.lines.LexFault.{LexFault}
 use Rattle.inc_token.proofs.Spelled.{token_lines-spelled}
 use Rattle.inc_directive.specs.Groups.{FileLine, file_lines, file_lines_from}
-use Rattle.inc_directive.specs.LineKinds.{Angled, ByName, Include, LineKind, Other, Quoted, Target, Text, defined_name, directive_kind, expanded_target, header_target, include_or, inner_bytes, is_header_kind, line_kind, other_kind, target_of}
+use Rattle.inc_directive.specs.LineKinds.{Angled, ByName, Include, LineKind, Other, Quoted, Target, Text, defined_name, directive_kind, expanded_target, header_target, include_or, inner_bytes, is_header_kind, line_kind, line_of_tokens, other_kind, target_of}
 use Rattle.inc_directive.specs.declared.kinds.DirectiveKind.{DirectiveKind}
 use Rattle.inc_directive.specs.declared.kinds.DirectiveKind.TheVariants.{Define}
 use Rattle.inc_lookup.specs.Projects.{each_once, with_path}
 use Rattle.inc_macro.specs.Macros.{Table, is_defined}
 use Rattle.inc_macro.proofs.UndefinedNames.{IsAbsent, absent_undefined}
-use Rattle.inc_graph.specs.IncludeGraph.{places_defined, undefined_place}
+use Rattle.inc_graph.specs.IncludeGraph.{defined_at, definitions_in, line_definition, undefined_place}
 use Rattle.inc_graph.proofs.LeadLemmas.{contains_cases, contains_first, contains_kept, contains_later, contains_nothing}
 use Rattle.inc_pp.proofs.NamedIncludes.{BeginsWith}
 use Rattle.inc_report.proofs.KeptLines.{IsLineOf}
@@ -137,10 +137,6 @@ line_is_spelled language cells l is =
 
 ---- names that no build defines
 
--- the name that a line defines, by its kind and its tokens
-abbrev definition_of_line : List (List ℕ) → FileLine → Option ℕ
-definition_of_line names l = option_and_then (undefined_place names) (defined_name l.kind l.tokens)
-
 -- a line of these by its tokens
 abbrev file_line : Language → ℕ → TokenLine → FileLine
 file_line language place m = record { place = place; kind = line_kind language m.tokens; tokens = m.tokens; last_line = m.last_line }
@@ -159,20 +155,21 @@ defines_nothing : (kind : LineKind) → defined_name kind [] ≡ None
 defines_nothing (Other Define) = refl
 defines_nothing kind = refl
 
--- the name that a line of the file defines has its place among those that the file defines
+-- the name that a line of the file defines is one of its definitions
 pub place_there : (language : Language) (names : List (List ℕ)) (ls : List TokenLine) (l : FileLine) (name : List ℕ) (k : ℕ) → IsLineOf language ls l
-    → defined_name l.kind l.tokens ≡ Some name → undefined_place names name ≡ Some k → Contains (places_defined names (file_lines language ls)) k
+    → defined_name l.kind l.tokens ≡ Some name → undefined_place names name ≡ Some k → Contains (definitions_in names (file_lines language ls)) (defined_at (line_of_tokens l.tokens) k)
 place_there language names ls l name k line defines is =
     elim line.1 [
       | inl none ↦
           absurd (let never : None ≡ Some name = sym (ap (defined_name l.kind) none ∙ defines_nothing l.kind) ∙ defines in cc)
       | inr there ↦
           let here = file_line_there language 0 ls there.0 there.1 in
-          contains_kept (definition_of_line names) (file_lines language ls) (file_line language here.0 there.0) k here.1
-          (ap (λ (ts : List Tok). option_and_then (undefined_place names) (defined_name (line_kind language ts) ts)) there.2
-          ∙ ap (λ (kind : LineKind). option_and_then (undefined_place names) (defined_name kind l.tokens)) (sym line.0)
-          ∙ ap (option_and_then (undefined_place names)) defines
-          ∙ is)
+          let at = line_of_tokens l.tokens in
+          contains_kept (line_definition names) (file_lines language ls) (file_line language here.0 there.0) (defined_at at k) here.1
+          (ap (λ (ts : List Tok). option_map (defined_at (line_of_tokens ts)) (option_and_then (undefined_place names) (defined_name (line_kind language ts) ts))) there.2
+          ∙ ap (λ (kind : LineKind). option_map (defined_at at) (option_and_then (undefined_place names) (defined_name kind l.tokens))) (sym line.0)
+          ∙ ap (λ (o : Option (List ℕ)). option_map (defined_at at) (option_and_then (undefined_place names) o)) defines
+          ∙ ap (option_map (defined_at at)) is)
     ]
 
 -- where none of these names is defined, each that has a place among them is not, and gets no definition back where nothing is put aside

@@ -11,7 +11,7 @@ use Rattle.inc_lookup.specs.Projects.{Layout, each_once, path_at, with_path}
 use Rattle.inc_directive.specs.LineKinds.{LineKind}
 use Rattle.inc_graph.specs.IncludeGraph.{name_in}
 use Rattle.inc_graph.specs.declared.graphs.Blocker.{Blocker}
-use Rattle.inc_report.specs.BlockedReasons.{blocker_reason_words, drop_line}
+use Rattle.inc_report.specs.BlockedReasons.{blocker_reason_words, drop_line, reasons_by}
 use Rattle.inc_report.specs.FaultReasons.{reason_line}
 use Rattle.inc_report.specs.NearNames.{more_line, most_unnamed}
 use Rattle.inc_report.specs.NamedReasons.{Sight, definition_words, directive_of, is_made_by, is_open, kind_reason, made_place, named_reason, named_reasons, names_line, open_names, with_open, written_end}
@@ -89,17 +89,23 @@ made_low definition count low x kind r is =
 
 ---- what is said beside the refusal, by its parts
 
+pub reasons_added : (line : Blocker → List ℕ) (undefine : List Blocker → List ℕ) (layout : Layout) (bs : List Blocker) (count : ℕ) (start first second third end : List ℕ)
+    → count ≡ min 10 (length bs) → start ≡ [] → first ≡ start ++ flat_map line (take count bs) → second ≡ first ++ more_line (length bs - count)
+    → third ≡ second ++ undefine (take count bs) → end ≡ third ++ drop_line layout (take count bs) → end ≡ reasons_by line undefine layout bs
+reasons_added line undefine layout bs count start first second third end most empty lines more names drops =
+    let some : take count bs ≡ take 10 bs = ap (λ (i : ℕ). take i bs) most ∙ take_min 10 bs in
+    let left : length bs - count ≡ length bs - 10 = omega (arith, most) in
+    drops ∙ ap₂ (λ (t : List ℕ) (l : List Blocker). t ++ drop_line layout l)
+    (names ∙ ap₂ (λ (t : List ℕ) (l : List Blocker). t ++ undefine l)
+    (more ∙ ap₂ (λ (t : List ℕ) (n : ℕ). t ++ more_line n)
+    (lines ∙ ap₂ (λ (t : List ℕ) (l : List Blocker). t ++ flat_map line l) empty some) left) some) some
+
 pub reasons_made : (language : Language) (undefined : List (List ℕ)) (sight : Sight) (layout : Layout) (bs : List Blocker) (count : ℕ) (start first second third end : List ℕ)
     → count ≡ min 10 (length bs) → start ≡ [] → first ≡ start ++ flat_map (named_reason undefined sight layout) (take count bs) → second ≡ first ++ more_line (length bs - count)
     → third ≡ second ++ names_line (open_names language undefined sight.kind (take count bs)) → end ≡ third ++ drop_line layout (take count bs)
     → end ≡ named_reasons language undefined sight layout bs
 reasons_made language undefined sight layout bs count start first second third end most empty lines more names drops =
-    let some : take count bs ≡ take 10 bs = ap (λ (i : ℕ). take i bs) most ∙ take_min 10 bs in
-    let left : length bs - count ≡ length bs - 10 = omega (arith, most) in
-    drops ∙ ap₂ (λ (t : List ℕ) (l : List Blocker). t ++ drop_line layout l)
-    (names ∙ ap₂ (λ (t : List ℕ) (l : List Blocker). t ++ names_line (open_names language undefined sight.kind l))
-    (more ∙ ap₂ (λ (t : List ℕ) (n : ℕ). t ++ more_line n)
-    (lines ∙ ap₂ (λ (t : List ℕ) (l : List Blocker). t ++ flat_map (named_reason undefined sight layout) l) empty some) left) some) some
+    reasons_added (named_reason undefined sight layout) (λ firsts. names_line (open_names language undefined sight.kind firsts)) layout bs count start first second third end most empty lines more names drops
 
 ---- directives that are the same by two views, and names that are defined at the same places
 

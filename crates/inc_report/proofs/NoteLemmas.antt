@@ -1,7 +1,7 @@
 -- Texts that are added one after the other.
 use Rattle.std.proofs.Common.{◌≡◌, ◌∙◌, ◌+◌, ◌-◌, ◌<◌, ℕ, zero, suc, List, [], ◌∷◌, ◌++◌, Option, Some, None, cond, ap, arith, refl, sym, drop, get_or, length, map, take}
 use Rattle.std.proofs.lemmas.Bool.{lt-ltb}
-use Rattle.std.proofs.lemmas.List.{append_assoc, drop_more, flat_map_more, map-append, take_more}
+use Rattle.std.proofs.lemmas.List.{append-nil, append_assoc, drop_more, flat_map_more, map-append, take_more}
 use Rattle.std.proofs.lemmas.Option.{same_Some}
 use Rattle.std.specs.Option.{option_map_or}
 use Rattle.std.specs.Prelude.{Bool, flat_map, nat_lt, slice_get, unwrap_or}
@@ -9,7 +9,7 @@ use Rattle.inc_lookup.specs.Projects.{Layout, path_at}
 use Rattle.inc_graph.specs.MissingLists.{Missing}
 use Rattle.inc_graph.specs.declared.graphs.Blocker.{Blocker}
 use Rattle.inc_report.specs.MissingNames.{MissingName, ranked}
-use Rattle.inc_report.specs.MissingNotes.{directory_before, empty_line, empty_notes, found_line, found_note, missing_note, more_note, name_note, names_note, unreached_line, unreached_notes}
+use Rattle.inc_report.specs.MissingNotes.{directory_before, empty_line, empty_lines, found_line, found_note, missing_note, more_note, name_note, names_note, never_note, unreached_line, unreached_lines}
 use Rattle.inc_report.specs.Views.{seen_name}
 use Rattle.inc_report.specs.declared.missing_names.MissingName as code
 
@@ -70,11 +70,20 @@ names_added layout ms old x y first lent names n h same are k left =
 
 ---- what is noted of some directives
 
-pub empty_is : (layout : Layout) (ms : List Missing) (count : ℕ) → count ≡ length ms → 0 < count → empty_line count ++ missing_note layout ms ≡ empty_notes layout ms
+-- where each is found
+pub no_missing : (layout : Layout) (ms : List Missing) (old : List ℕ) → length ms ≡ 0 → old ≡ old ++ empty_lines layout ms
+no_missing layout [] old none = sym (append-nil old)
+no_missing layout (m ∷ ms) old none = absurd (omega (arith, none))
+
+pub never_is : (whole : Bool) (layout : Layout) (bs : List Blocker) (ms : List Missing) → length ms ≡ 0 → never_note whole bs ≡ unreached_lines whole layout bs ms
+never_is whole layout bs [] none = refl
+never_is whole layout bs (m ∷ ms) none = absurd (omega (arith, none))
+
+pub empty_is : (layout : Layout) (ms : List Missing) (count : ℕ) → count ≡ length ms → 0 < count → empty_line count ++ missing_note layout ms ≡ empty_lines layout ms
 empty_is layout [] count is some = absurd (omega (arith, is, some))
 empty_is layout (m ∷ ms) count is some = ap (λ (n : ℕ). empty_line n ++ missing_note layout (m ∷ ms)) is
 
 pub unreached_is : (whole : Bool) (layout : Layout) (bs : List Blocker) (ms : List Missing) (count : ℕ) → count ≡ length ms → 0 < count
-    → unreached_line count ++ missing_note layout ms ≡ unreached_notes whole layout bs ms
+    → unreached_line count ++ missing_note layout ms ≡ unreached_lines whole layout bs ms
 unreached_is whole layout bs [] count is some = absurd (omega (arith, is, some))
 unreached_is whole layout bs (m ∷ ms) count is some = ap (λ (n : ℕ). unreached_line n ++ missing_note layout (m ∷ ms)) is

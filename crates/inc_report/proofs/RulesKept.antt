@@ -24,10 +24,11 @@ use Rattle.inc_rules.specs.declared.rules.Verb.TheVariants.{NotReach, NotInclude
 use Rattle.inc_report.specs.NamedFiles.{headers_at}
 use Rattle.inc_report.specs.Printed.{Printed}
 use Rattle.inc_report.specs.Questions.{Answer}
-use Rattle.inc_report.specs.RulesHeadline.{KeepsRule, NeverBreaks, RulesAreKept, RulesHeadline}
+use Rattle.inc_report.specs.RulesHeadline.{KeepsRule, NeverBreaks, RulesAreKept, RulesHeadline, SarifHeadline}
+use Rattle.inc_report.specs.RulesSarif.{IsSarifBy, IsSarifOf, sarif_text}
 use Rattle.inc_report.specs.RulesText.{IsRulesBy, IsRulesOf, rules_text}
 use Rattle.inc_report.specs.Strictness.{Strict, strays_of}
-use Rattle.inc_report.specs.Terms.{Question, setting_in}
+use Rattle.inc_report.specs.Terms.{Question, RuleList, setting_in}
 use Rattle.inc_report.proofs.HeadlineLemmas.{IsTold, stated_other, told_of, unless_told}
 use Rattle.inc_report.proofs.KeptOut.{nothing_is_read_without_a_chain, once_define_none}
 
@@ -153,3 +154,10 @@ rules_headline rules q p given listing is none other =
     let t = told_of (Strict (strays_of q) (IsRulesOf rules)) q listing p stated is.0 in
     let told = unless_told (layout_of listing) (strays_of q t.graph) (IsRulesOf rules (layout_of listing) t.graph) p stated t.told in
     rules_promised q rules listing (λ g js. p.text ≡ rules_text (layout_of listing) g js) (Strict (strays_of q) (IsRulesOf rules)) p t none told.0 told.1 (ap (λ (r : Printed). r.text) told.2)
+
+pub sarif_headline : (list : RuleList) (q : Question) (p : Printed) (given : List Given) (listing : Listing) → IsSarifBy list q p given listing → SarifHeadline list q p listing
+sarif_headline list q p given listing is none other =
+    let stated = stated_other p other in
+    let t = told_of (Strict (strays_of q) (IsSarifOf list)) q listing p stated is.0 in
+    let told = unless_told (layout_of listing) (strays_of q t.graph) (IsSarifOf list (layout_of listing) t.graph) p stated t.told in
+    rules_promised q list.rules listing (λ g js. p.text ≡ sarif_text list.name (layout_of listing) g js) (Strict (strays_of q) (IsSarifOf list)) p t none told.0 told.1 (ap (λ (r : Printed). r.text) told.2)

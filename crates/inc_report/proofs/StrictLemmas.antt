@@ -133,6 +133,7 @@ module _ (P : Missing → Type 0) where
   strays_all asked.Graph q g all = all_strict q.is_strict q.external g.missing all
   strays_all asked.Rules q g all = all_strict q.is_strict q.external g.missing all
   strays_all asked.Cost q g all = all_strict q.is_strict q.external g.missing all
+  strays_all asked.Tree q g all = all_strict q.is_strict q.external g.missing all
   strays_all asked.Cut q g all = all_behind g.blockers (strays_of q g) (all_strict q.is_strict q.external g.missing all)
 
 ---- their text

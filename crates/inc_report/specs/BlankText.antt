@@ -6,7 +6,7 @@ use Rattle.inc_lookup.specs.Projects.{Layout, Listing}
 use Rattle.inc_graph.specs.Cuts.{fixed_by, costs_by, directives_of, IsNearest}
 use Rattle.inc_graph.specs.IncludeGraph.{Graph}
 use Rattle.inc_check.specs.Texts.{line_text}
-use Rattle.inc_report.specs.MissingNotes.{empty_notes}
+use Rattle.inc_report.specs.AnswerNotes.{empty_notes}
 use Rattle.inc_report.specs.Changes.{Change, changes}
 use Rattle.inc_report.specs.CutText.{WithAmounts, IsFixedPrinted}
 use Rattle.inc_report.specs.Numbers.{count_text}
@@ -28,7 +28,7 @@ files_text cs = count_text (codes "files") (length cs) ++ flat_map file_text cs
 abbrev pub AreChangesOf : (List Change → List ℕ) → Language → Listing → Layout → Graph → (amounts : List ℕ) → Printed → Type 0
 AreChangesOf text language listing layout g amounts p =
     ((set : List ℕ) × IsNearest g (fixed_by amounts) (costs_by amounts) set
-    × (p ≡ answered_of (empty_notes layout g.missing) (text (changes language listing (directives_of g set)))))
+    × (p ≡ answered_of (empty_notes layout g) (text (changes language listing (directives_of g set)))))
     ⊎ IsFixedPrinted layout g amounts p
 
 -- the same of a question, and which files are read for that

@@ -6,6 +6,8 @@ use Rattle.inc_lookup.specs.Projects.{Layout, path_at}
 use Rattle.inc_graph.specs.declared.graphs.Blocker.{Blocker}
 use Rattle.inc_graph.specs.declared.graphs.BlockerKind.{BlockerKind}
 use Rattle.inc_graph.specs.declared.graphs.BlockerKind.TheVariants.{Computed, Foreign, Several}
+use Rattle.inc_lookup.specs.declared.projects.DirectiveId.{DirectiveId}
+use Rattle.inc_report.specs.AnswerNotes.{definition_lines}
 use Rattle.inc_report.specs.FaultReasons.{reason_line}
 use Rattle.inc_report.specs.MissingNotes.{shown_byte}
 use Rattle.inc_report.specs.NearNames.{more_line, most_unnamed}
@@ -30,11 +32,11 @@ abbrev pub is_computed : BlockerKind → Bool
 is_computed Computed = true
 is_computed _ = false
 
--- the one where macros make the name of a header, and where it is not known which, nor whether a file defines it
+-- the one where macros make the name of a header, and where it is not known which
 abbrev pub any_name_line : List Blocker → List ℕ
 any_name_line bs =
     if list_any (λ (b : Blocker). is_computed b.kind) bs
-    then undefine_line (codes " --undefined NAME; where that is given, cut --format gcc says which file defines it") else []
+    then undefine_line (codes " --undefined NAME") else []
 
 -- a byte of a path in a glob between apostrophes, where it stands for itself
 abbrev pub glob_byte : ℕ → List ℕ
@@ -57,5 +59,10 @@ abbrev pub reasons_by : (line : Blocker → List ℕ) → (undefine : List Block
 reasons_by line undefine layout bs =
     flat_map line (take most_unnamed bs) ++ more_line (length bs - most_unnamed) ++ undefine (take most_unnamed bs) ++ drop_line layout (take most_unnamed bs)
 
-abbrev pub blocked_reasons : Layout → List Blocker → List ℕ
-blocked_reasons layout bs = reasons_by (blocker_reason layout) any_name_line layout bs
+-- what each line begins with
+abbrev pub reason_start : List ℕ
+reason_start = codes "incut: "
+
+-- before that where files define names that no build defines
+abbrev pub blocked_reasons : Layout → (definitions : List DirectiveId) → List Blocker → List ℕ
+blocked_reasons layout ds bs = reasons_by (blocker_reason layout) (λ first. definition_lines reason_start layout ds ++ any_name_line first) layout bs

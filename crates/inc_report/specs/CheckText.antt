@@ -1,6 +1,6 @@
 -- The text that `check` prints.
 use Rattle.std.specs.Prelude.{◌≡◌, ◌⊎◌, ℕ, List, ◌++◌, codes, decimal}
-use Rattle.inc_report.specs.MissingNotes.{empty_notes}
+use Rattle.inc_report.specs.AnswerNotes.{empty_notes}
 use Rattle.inc_report.specs.Terms.{Question, Limits}
 use Rattle.inc_lookup.specs.Given.{Given}
 use Rattle.inc_lookup.specs.Projects.{Layout, Listing}
@@ -51,7 +51,7 @@ IsMalformedPrinted text p = (line : ℕ) × IsMalformed CertificateFormat text l
 abbrev pub IsVerdictPrinted : List ℕ → Layout → Graph → (amounts : List ℕ) → Printed → Type 0
 IsVerdictPrinted text layout g amounts p =
     (c : Certificate) × (v : Verdict) × IsCertificateText text c × IsVerdict layout g (fixed_by amounts) (costs_by amounts) c v
-    × (p ≡ verdict_printed (empty_notes layout g.missing) v)
+    × (p ≡ verdict_printed (empty_notes layout g) v)
 
 -- what `check` prints of a graph and the text of a certificate
 abbrev pub IsCheckOf : (text : List ℕ) → Layout → Graph → (amounts : List ℕ) → Printed → Type 0

@@ -10,7 +10,7 @@ use Rattle.inc_check.specs.Texts.{line_text, marks_text}
 use Rattle.inc_cost.specs.Costs.{Group, AreAllBrought, AreDearest, AreSaved, IsTotal}
 use Rattle.inc_report.specs.CostGroups.{Costed, AreCosted, AreGroupsRanked, group_line}
 use Rattle.inc_report.specs.FileSizes.{file_sizes}
-use Rattle.inc_report.specs.MissingNotes.{empty_notes}
+use Rattle.inc_report.specs.AnswerNotes.{empty_notes}
 use Rattle.inc_report.specs.Numbers.{count_text}
 use Rattle.inc_report.specs.Printed.{Printed, answered_of}
 use Rattle.inc_report.specs.Questions.{Answer, IsAnswer, IsAnswerBy}
@@ -84,7 +84,7 @@ pub record IsRanked (weights : List ℕ) (most : ℕ) (groups : List Group) (lay
 
 abbrev pub IsCostFor : (weights : List ℕ) → (most : ℕ) → (groups : List Group) → Answer
 IsCostFor weights most groups layout g p =
-    (r : Ranked) × IsRanked weights most groups layout g r × (p ≡ answered_of (empty_notes layout g.missing) (cost_text layout g r))
+    (r : Ranked) × IsRanked weights most groups layout g r × (p ≡ answered_of (empty_notes layout g) (cost_text layout g r))
 
 -- of one whose files are those of a listing
 abbrev pub IsCostOf : (most : ℕ) → (groups : List Group) → Listing → Answer

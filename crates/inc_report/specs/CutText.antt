@@ -1,7 +1,8 @@
 -- The text that `cut` prints, and what comes before the answers about cuts: the refusals of blockers, of marks and of costs.
 use Rattle.std.specs.Prelude.{◌≡◌, ◌≢◌, ◌⊎◌, ℕ, List, [], ◌∷◌, Option, Some, None, option_map, option_and_then, slice_get, codes}
+use Rattle.inc_lookup.specs.declared.projects.DirectiveId.{DirectiveId}
 use Rattle.inc_report.specs.BlockedReasons.{blocked_reasons}
-use Rattle.inc_report.specs.MissingNotes.{empty_notes}
+use Rattle.inc_report.specs.AnswerNotes.{empty_notes}
 use Rattle.inc_report.specs.Terms.{Question, Limits}
 use Rattle.inc_lookup.specs.Given.{Given}
 use Rattle.inc_lookup.specs.Projects.{Layout, Listing}
@@ -41,19 +42,19 @@ abbrev pub marks_refusal : Layout → Graph → List Mark → List Cost → Opti
 marks_refusal layout g marks costs = option_and_then (reasoned layout g marks costs) (marks_fault layout g marks costs)
 
 -- the refusal by all of these, and beside it what they are and how to go on
-abbrev pub blocked : Layout → List Blocker → Printed
-blocked layout bs = refusal_for (blocked_reasons layout bs) (Blocked layout bs)
+abbrev pub blocked : Layout → (definitions : List DirectiveId) → List Blocker → Printed
+blocked layout ds bs = refusal_for (blocked_reasons layout ds bs) (Blocked layout bs)
 
 -- what is printed where no blocker is, and marks and costs are not refused, or the refusal in its place
-abbrev pub Unhindered : Layout → List Blocker → Option (List ℕ × Refusal) → (Printed → Type 0) → Printed → Type 0
-Unhindered layout (b ∷ bs) fault Then p = p ≡ blocked layout (b ∷ bs)
-Unhindered layout [] (Some r) Then p = p ≡ refusal_for r.0 r.1
-Unhindered layout [] None Then p = Then p
+abbrev pub Unhindered : Layout → (definitions : List DirectiveId) → List Blocker → Option (List ℕ × Refusal) → (Printed → Type 0) → Printed → Type 0
+Unhindered layout ds (b ∷ bs) fault Then p = p ≡ blocked layout ds (b ∷ bs)
+Unhindered layout ds [] (Some r) Then p = p ≡ refusal_for r.0 r.1
+Unhindered layout ds [] None Then p = Then p
 
 -- with the amounts of the edges, 0 where they are fixed and else what they cost
 abbrev pub WithAmounts : Limits → (Layout → Graph → (amounts : List ℕ) → Printed → Type 0) → Answer
 WithAmounts l Then layout g p =
-    Unhindered layout g.blockers (marks_refusal layout g l.fixed l.costs) (Then layout g (amounts_by layout g l.kept l.fixed l.costs)) p
+    Unhindered layout g.definitions g.blockers (marks_refusal layout g l.fixed l.costs) (Then layout g (amounts_by layout g l.kept l.fixed l.costs)) p
 
 -- it hinders the answer about a graph
 abbrev pub IsHindrance : Layout → Graph → Limits → Hindrance → Type 0
@@ -66,13 +67,13 @@ IsHindrance layout g l (hindrance.Marks fault) = (g.blockers ≡ []) × (marks_f
 abbrev pub IsCutPrinted : Layout → Graph → (amounts : List ℕ) → Printed → Type 0
 IsCutPrinted layout g amounts p =
     (set : List ℕ) × (chains : List Counted) × IsCut g (fixed_by amounts) (costs_by amounts) set chains
-    × (p ≡ answered_of (empty_notes layout g.missing) (certificate_text (certificate_of layout g set chains)))
+    × (p ≡ answered_of (empty_notes layout g) (certificate_text (certificate_of layout g set chains)))
 
 -- printed is a chain of fixed edges alone
 abbrev pub IsFixedPrinted : Layout → Graph → (amounts : List ℕ) → Printed → Type 0
 IsFixedPrinted layout g amounts p =
     (chain : List ℕ) × IsFixedChain g (fixed_by amounts) chain
-    × (p ≡ negative_of (empty_notes layout g.missing) (list_text (codes "fixed") (marks_of layout g chain)))
+    × (p ≡ negative_of (empty_notes layout g) (list_text (codes "fixed") (marks_of layout g chain)))
 
 -- what `cut` prints of a graph: a cut, or why there is none
 abbrev pub IsCutOf : Layout → Graph → (amounts : List ℕ) → Printed → Type 0

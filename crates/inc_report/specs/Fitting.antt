@@ -7,7 +7,7 @@ use Rattle.inc_graph.specs.IncludeGraph.{Graph}
 use Rattle.inc_check.specs.Certificates.{marks_of, chain_marks, certificate_of}
 use Rattle.inc_check.specs.Texts.{greatest_number, is_short_mark, certificate_text}
 use Rattle.inc_check.specs.declared.certificates.CountedMarks.{CountedMarks}
-use Rattle.inc_report.specs.MissingNotes.{empty_notes}
+use Rattle.inc_report.specs.AnswerNotes.{empty_notes}
 use Rattle.inc_report.specs.CutText.{IsFixedPrinted}
 use Rattle.inc_report.specs.Printed.{Printed, answered_of}
 
@@ -29,7 +29,7 @@ pub record IsFit (layout : Layout) (g : Graph) (set : List ℕ) (chains : List C
 abbrev pub IsFitCutPrinted : Layout → Graph → (amounts : List ℕ) → Printed → Type 0
 IsFitCutPrinted layout g amounts p =
     (set : List ℕ) × (chains : List Counted) × IsCut g (fixed_by amounts) (costs_by amounts) set chains × IsFit layout g set chains
-    × (p ≡ answered_of (empty_notes layout g.missing) (certificate_text (certificate_of layout g set chains)))
+    × (p ≡ answered_of (empty_notes layout g) (certificate_text (certificate_of layout g set chains)))
 
 -- what `cut` prints of a graph: such a cut, or why there is none
 abbrev pub IsFitCutOf : Layout → Graph → (amounts : List ℕ) → Printed → Type 0

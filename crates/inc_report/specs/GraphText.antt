@@ -6,7 +6,8 @@ use Rattle.inc_lookup.specs.Projects.{Layout, Listing, path_at}
 use Rattle.inc_graph.specs.IncludeGraph.{Edge, Graph}
 use Rattle.inc_check.specs.Texts.{line_text}
 use Rattle.inc_report.specs.Numbers.{count_text, directive_text}
-use Rattle.inc_report.specs.Printed.{Printed, answered}
+use Rattle.inc_report.specs.AnswerNotes.{definition_notes}
+use Rattle.inc_report.specs.Printed.{Printed, answered_of}
 use Rattle.inc_report.specs.Questions.{Answer, IsAnswer, IsAnswerBy}
 use Rattle.inc_report.specs.Strictness.{Strict, strays_of}
 use Rattle.inc_report.specs.WhyText.{unresolved_text}
@@ -21,7 +22,7 @@ graph_text layout g = count_text (codes "edges") (length g.edges) ++ flat_map (e
 
 -- what `graph` prints of a graph
 abbrev pub IsGraphOf : Answer
-IsGraphOf layout g p = p ≡ answered (graph_text layout g)
+IsGraphOf layout g p = p ≡ answered_of (definition_notes layout g) (graph_text layout g)
 
 -- what `graph` prints
 abbrev pub IsGraph : Question → Listing → Printed → Type 0

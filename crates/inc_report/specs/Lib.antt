@@ -1,3 +1,5 @@
+pub mod AnswerNotes
+pub mod BaselineText
 pub mod BlankHeadline
 pub mod BlankText
 pub mod BlankedCuts
@@ -56,6 +58,7 @@ pub mod RuleViews
 pub mod RulesDocument
 pub mod RulesHeadline
 pub mod RulesJson
+pub mod RulesSarif
 pub mod RulesText
 pub mod ScanForms
 pub mod ScanText
@@ -65,9 +68,13 @@ pub mod StopReasons
 pub mod Strictness
 pub mod Terms
 pub mod Told
+pub mod TreeDocument
+pub mod TreeJson
+pub mod TreeText
 pub mod UsefulDirs
 pub mod UsefulViews
 pub mod Views
+pub mod Ways
 pub mod WhoDocument
 pub mod WhoText
 pub mod WhyDocument

@@ -108,10 +108,10 @@ empty_line n = note_start ++ decimal n ++ empty_words n ++ 10 ∷ []
 abbrev pub unreached_line : ℕ → List ℕ
 unreached_line n = note_start ++ codes "not reached, but " ++ decimal n ++ unreached_words n ++ 10 ∷ []
 
--- the notes beside an answer that takes headers that are not found as empty; none where each is found
-abbrev pub empty_notes : Layout → List Missing → List ℕ
-empty_notes layout [] = []
-empty_notes layout (m ∷ ms) = empty_line (length (m ∷ ms)) ++ missing_note layout (m ∷ ms)
+-- what is noted where an answer takes headers that are not found as empty; nothing where each is found
+abbrev pub empty_lines : Layout → List Missing → List ℕ
+empty_lines layout [] = []
+empty_lines layout (m ∷ ms) = empty_line (length (m ∷ ms)) ++ missing_note layout (m ∷ ms)
 
 -- the line that no configuration leads to a header
 abbrev pub never_line : List ℕ
@@ -123,7 +123,7 @@ abbrev pub never_note : (whole : Bool) → List Blocker → List ℕ
 never_note whole [] = if whole then never_line else []
 never_note whole (b ∷ bs) = []
 
--- the notes beside the answer that no header is reached: on headers that are not found, or this one where each is found
-abbrev pub unreached_notes : (whole : Bool) → Layout → List Blocker → List Missing → List ℕ
-unreached_notes whole layout bs [] = never_note whole bs
-unreached_notes whole layout bs (m ∷ ms) = unreached_line (length (m ∷ ms)) ++ missing_note layout (m ∷ ms)
+-- what is noted where no header is reached: of headers that are not found, or this line where each is found
+abbrev pub unreached_lines : (whole : Bool) → Layout → List Blocker → List Missing → List ℕ
+unreached_lines whole layout bs [] = never_note whole bs
+unreached_lines whole layout bs (m ∷ ms) = unreached_line (length (m ∷ ms)) ++ missing_note layout (m ∷ ms)

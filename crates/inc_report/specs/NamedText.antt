@@ -7,6 +7,8 @@ use Rattle.inc_lookup.specs.declared.projects.DirectiveId.{DirectiveId}
 use Rattle.inc_lookup.specs.Given.{Given}
 use Rattle.inc_lookup.specs.Projects.{Layout, Listing, layout_of}
 use Rattle.inc_directive.specs.LineKinds.{LineKind}
+use Rattle.inc_cost.specs.Costs.{IsTotal}
+use Rattle.inc_cost.specs.declared.branches.Branch.{Branch}
 use Rattle.inc_graph.specs.Cuts.{Counted}
 use Rattle.inc_graph.specs.IncludeGraph.{Graph}
 use Rattle.inc_rules.specs.Judging.{AreJudged, Judged}
@@ -24,7 +26,7 @@ use Rattle.inc_report.specs.GraphDocument.{graph_document}
 use Rattle.inc_report.specs.JsonAnswers.{About, cut_json, fixed_json, graph_json, who_json, why_json}
 use Rattle.inc_report.specs.JsonRefusals.{refusal_json}
 use Rattle.inc_report.specs.KeptFiles.{Kept, OfKept}
-use Rattle.inc_report.specs.MissingNotes.{empty_notes}
+use Rattle.inc_report.specs.AnswerNotes.{empty_notes}
 use Rattle.inc_report.specs.NamedReasons.{Sight, named_reasons}
 use Rattle.inc_report.specs.Printed.{Printed, answered_of, end_of, refused_for}
 use Rattle.inc_report.specs.Questions as questions
@@ -36,6 +38,9 @@ use Rattle.inc_report.specs.RulesText.{rules_kind}
 use Rattle.inc_report.specs.Strictness.{Strict, asked_strays_of}
 use Rattle.inc_report.specs.Terms.{CostWords, Question, Details, Limits, RuleList, is_whole}
 use Rattle.inc_report.specs.Told.{Answer, Chains, Sources, Edges, Removed, FixedChain, IsAnswerOf, end_kind, notes_of}
+use Rattle.inc_report.specs.TreeDocument.{tree_document}
+use Rattle.inc_report.specs.TreeJson.{tree_json}
+use Rattle.inc_report.specs.TreeText.{tree_branches}
 use Rattle.inc_report.specs.WhoDocument.{who_document}
 use Rattle.inc_report.specs.WhyDocument.{why_document}
 use Rattle.inc_report.specs.declared.named.Asked.{Asked}
@@ -108,12 +113,14 @@ command_name ask.Graph = codes "graph"
 command_name Cut = codes "cut"
 command_name ask.Rules = codes "rules"
 command_name ask.Cost = codes "cost"
+command_name ask.Tree = codes "cost"
 
 -- whether it is about headers, too
 abbrev pub asks_headers : Asked → Bool
 asks_headers ask.Graph = false
 asks_headers ask.Rules = false
 asks_headers ask.Cost = false
+asks_headers ask.Tree = false
 asks_headers _ = true
 
 -- as a text, or as an object
@@ -171,16 +178,30 @@ cost_answer Json a r = cost_json a r
 cost_answer Dot a r = dot_text a.layout a.graph (drawn r.edges [] None)
 
 abbrev pub cost_report : NamedForm → About → Ranked → Printed
-cost_report form a r = answered_of (empty_notes a.layout a.graph.missing) (cost_answer form.format a r)
+cost_report form a r = answered_of (empty_notes a.layout a.graph) (cost_answer form.format a r)
 
 abbrev pub IsCostReport : NamedForm → CostWords → (weights : List ℕ) → About → Printed → Type 0
 IsCostReport form w weights a p = (r : Ranked) × IsRanked weights w.most w.groups a.layout a.graph r × (p ≡ cost_report form a r)
+
+-- of the trees of its sources; all edges are drawn
+abbrev pub tree_answer : Format → About → (total : ℕ) → List Branch → List ℕ
+tree_answer Gcc a total bs = document_text (λ d. written (a.kind d)) a.layout (tree_document a.layout a.graph total bs)
+tree_answer Json a total bs = tree_json a total bs
+tree_answer Dot a total bs = dot_text a.layout a.graph all_drawn
+
+abbrev pub tree_report : NamedForm → About → (total : ℕ) → List Branch → Printed
+tree_report form a total bs = answered_of (empty_notes a.layout a.graph) (tree_answer form.format a total bs)
+
+abbrev pub AreTreesReported : NamedForm → (weights : List ℕ) → About → Printed → Type 0
+AreTreesReported form weights a p =
+    (total : ℕ) × IsTotal a.graph weights [] a.graph.sources total × (p ≡ tree_report form a total (tree_branches weights a.graph))
 
 -- of a graph: limits and amounts count of a cut alone, a list of rules where these are asked about, and how much is printed of costs
 abbrev pub IsNamedAs : (whole : Bool) → Asked → NamedForm → Details → Language → Listing → questions.Answer
 IsNamedAs whole Cut form d language listing layout g p = WithAmounts d.limits (IsReportOf whole Cut form (has_costs d.limits.costs) language listing) layout g p
 IsNamedAs whole ask.Rules form d language listing layout g p = IsRuleReport form d.rules (about language listing layout g) p
 IsNamedAs whole ask.Cost form d language listing layout g p = IsCostReport form d.costs (file_sizes listing g.headers) (about language listing layout g) p
+IsNamedAs whole ask.Tree form d language listing layout g p = AreTreesReported form (file_sizes listing g.headers) (about language listing layout g) p
 IsNamedAs whole asked form d language listing layout g p = IsReportOf whole asked form false language listing layout g [] p
 
 abbrev pub IsNamedOf : (whole : Bool) → NamedForm → Details → Language → Listing → questions.Answer
@@ -230,7 +251,7 @@ IsStrictKept form q d s p =
 -- of what hinders a cut
 abbrev pub IsHinderedKept : NamedForm → Question → Limits → Subject → Printed → Type 0
 IsHinderedKept form q l s p =
-    (plain : Printed) × Unhindered s.project.now s.graph.now.blockers (marks_refusal s.project.now s.graph.now l.fixed l.costs) (λ r. ⊥) plain
+    (plain : Printed) × Unhindered s.project.now s.graph.now.definitions s.graph.now.blockers (marks_refusal s.project.now s.graph.now l.fixed l.costs) (λ r. ⊥) plain
     × OfKept s.files.now s.project.now (λ listing. IsInFormat form q s.project.now (kept_sight s.language listing s.project.now s.files.now) plain p)
 
 -- by what is kept of them alone

@@ -11,11 +11,17 @@ pub record Printed : Type 0 where
 
 -- with these notes, and no other text
 abbrev pub end_of : (notes : List ℕ) → EndKind → End
-end_of notes kind = record { kind = kind; notes = notes; rules = []; endings = []; stops = [] }
+end_of notes kind = record { kind = kind; notes = notes; rules = []; endings = []; stops = []; baseline = [] }
 
 -- the same with these texts: rules for make, how sources ended, and why those stopped that did
 abbrev pub with_texts : (rules endings stops : List ℕ) → End → End
-with_texts rules endings stops e = record { kind = e.kind; notes = e.notes; rules = rules; endings = endings; stops = stops }
+with_texts rules endings stops e =
+    record { kind = e.kind; notes = e.notes; rules = rules; endings = endings; stops = stops; baseline = e.baseline }
+
+-- the same with the lines of a baseline
+abbrev pub with_baseline : (lines : List ℕ) → End → End
+with_baseline lines e =
+    record { kind = e.kind; notes = e.notes; rules = e.rules; endings = e.endings; stops = e.stops; baseline = lines }
 
 -- how a call ends with the answer that a header is reached: that one is negative where it is asked to fail
 abbrev pub reached_kind : (fails : Bool) → EndKind

@@ -11,8 +11,9 @@ use Rattle.inc_rules.specs.declared.rules.Verb.TheVariants.{NotReach}
 use Rattle.inc_report.specs.Headline.{NeverReads}
 use Rattle.inc_report.specs.NamedFiles.{sources_at}
 use Rattle.inc_report.specs.Printed.{Printed}
+use Rattle.inc_report.specs.RulesSarif.{sarif_text}
 use Rattle.inc_report.specs.RulesText.{rules_text}
-use Rattle.inc_report.specs.Terms.{Question, named_directives, setting_in}
+use Rattle.inc_report.specs.Terms.{Question, RuleList, named_directives, setting_in}
 use Rattle.inc_report.specs.declared.outcome.EndKind.TheVariants.{Refused}
 
 -- no preprocessing of a source that the rule is about, without the directives that the question takes as removed, reads a file of its right side
@@ -49,3 +50,7 @@ RulesHeadlineBy q rules listing IsPrinted p = q.to ≡ None → p.end.kind ≢ R
 -- of what is printed as text
 abbrev pub RulesHeadline : List Rule → Question → Printed → Listing → Type 0
 RulesHeadline rules q p listing = RulesHeadlineBy q rules listing (λ g js. p.text ≡ rules_text (layout_of listing) g js) p
+
+-- and as SARIF
+abbrev pub SarifHeadline : RuleList → Question → Printed → Listing → Type 0
+SarifHeadline list q p listing = RulesHeadlineBy q list.rules listing (λ g js. p.text ≡ sarif_text list.name (layout_of listing) g js) p

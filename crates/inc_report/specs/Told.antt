@@ -5,7 +5,7 @@ use Rattle.inc_graph.specs.Chains.{IsShortestOrNone, AreChainsByLast}
 use Rattle.inc_graph.specs.Cuts.{Counted, fixed_by, costs_by, IsCut, IsFixedChain}
 use Rattle.inc_graph.specs.IncludeGraph.{Graph}
 use Rattle.inc_graph.specs.Reaching.{AreReaching, Reaching}
-use Rattle.inc_report.specs.MissingNotes.{empty_notes}
+use Rattle.inc_report.specs.AnswerNotes.{definition_notes, empty_notes}
 use Rattle.inc_report.specs.Printed.{Printed, end_of}
 use Rattle.inc_report.specs.WhoText.{who_kind, who_notes}
 use Rattle.inc_report.specs.WhyText.{why_kind, why_notes}
@@ -44,13 +44,14 @@ end_kind fails Edges = Answered
 end_kind fails (Removed set chains) = Answered
 end_kind fails (FixedChain chain) = Negative
 
--- what is noted beside it, of files that are read as they are or not: of headers that are not found, or that no configuration leads to one
+-- what is noted beside it, of files that are read as they are or not: where they define names that no build defines, and of headers that are
+-- not found, or that no configuration leads to one
 abbrev pub notes_of : (whole : Bool) → Layout → Graph → Answer → List ℕ
 notes_of whole layout g (Chains shortest chains) = why_notes whole layout g shortest
 notes_of whole layout g (Sources reaching chains) = who_notes whole layout g reaching
-notes_of whole layout g Edges = []
-notes_of whole layout g (Removed set chains) = empty_notes layout g.missing
-notes_of whole layout g (FixedChain chain) = empty_notes layout g.missing
+notes_of whole layout g Edges = definition_notes layout g
+notes_of whole layout g (Removed set chains) = empty_notes layout g
+notes_of whole layout g (FixedChain chain) = empty_notes layout g
 
 -- what is printed of a text that is made
 abbrev pub told_printed : declared.Told → Printed

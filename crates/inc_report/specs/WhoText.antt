@@ -10,7 +10,7 @@ use Rattle.inc_check.specs.Certificates.{marks_of}
 use Rattle.inc_report.specs.Bounds.{first_of, left_out}
 use Rattle.inc_report.specs.MarkTexts.{list_text, more_text}
 use Rattle.inc_report.specs.Numbers.{count_text, directive_text}
-use Rattle.inc_report.specs.MissingNotes.{unreached_notes}
+use Rattle.inc_report.specs.AnswerNotes.{definition_notes, unreached_notes}
 use Rattle.inc_report.specs.Printed.{Printed, end_of, reached_kind}
 use Rattle.inc_report.specs.Questions.{Answer, IsAnswer, IsAnswerBy}
 use Rattle.inc_report.specs.Strictness.{Strict, strays_of}
@@ -36,10 +36,11 @@ sources_text with_chains most layout g reaching =
 abbrev pub who_text : (with_chains : Bool) → (most : Option ℕ) → Layout → Graph → List Reaching → List (List ℕ) → List ℕ
 who_text with_chains most layout g reaching chains = sources_text with_chains most layout g reaching ++ ways_text most layout g chains
 
--- what is noted beside it where no source reaches a header: of headers that are not found, or that no configuration leads to one
+-- what is noted beside it: where files define names that no build defines, and where no source reaches a header of headers that are not
+-- found, or that no configuration leads to one
 abbrev pub who_notes : (whole : Bool) → Layout → Graph → List Reaching → List ℕ
-who_notes whole layout g [] = unreached_notes whole layout g.blockers g.missing
-who_notes whole layout g (r ∷ rs) = []
+who_notes whole layout g [] = unreached_notes whole layout g
+who_notes whole layout g (r ∷ rs) = definition_notes layout g
 
 -- the call ends so
 abbrev pub who_kind : (fails : Bool) → List Reaching → EndKind

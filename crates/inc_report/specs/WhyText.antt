@@ -10,7 +10,7 @@ use Rattle.inc_check.specs.Certificates.{marks_of}
 use Rattle.inc_check.specs.Texts.{line_text}
 use Rattle.inc_report.specs.MarkTexts.{missing_mark, list_text, chains_text, blockers_text}
 use Rattle.inc_report.specs.Numbers.{count_text}
-use Rattle.inc_report.specs.MissingNotes.{unreached_notes}
+use Rattle.inc_report.specs.AnswerNotes.{definition_notes, unreached_notes}
 use Rattle.inc_report.specs.Printed.{Printed, end_of, reached_kind}
 use Rattle.inc_report.specs.Questions.{Answer, IsAnswer, IsAnswerBy}
 use Rattle.inc_report.specs.Strictness.{Strict, strays_of}
@@ -35,10 +35,11 @@ ways_text most layout g chains = chains_text most (map (marks_of layout g) chain
 abbrev pub why_text : (most : Option ℕ) → Layout → Graph → Option (List ℕ) → List (List ℕ) → List ℕ
 why_text most layout g shortest chains = shortest_text (option_map (marks_of layout g) shortest) ++ ways_text most layout g chains
 
--- what is noted beside it where there is no chain: of headers that are not found, or that no configuration leads to the header
+-- what is noted beside it: where files define names that no build defines, and where there is no chain of headers that are not found, or
+-- that no configuration leads to the header
 abbrev pub why_notes : (whole : Bool) → Layout → Graph → Option (List ℕ) → List ℕ
-why_notes whole layout g None = unreached_notes whole layout g.blockers g.missing
-why_notes whole layout g (Some chain) = []
+why_notes whole layout g None = unreached_notes whole layout g
+why_notes whole layout g (Some chain) = definition_notes layout g
 
 -- the call ends so
 abbrev pub why_kind : (fails : Bool) → Option (List ℕ) → EndKind

@@ -2,29 +2,34 @@
 ghost use Rattle.std.specs.Prelude.{◌≡◌, ◌<◌, ◌++◌, codes, decimal, flat_map, length, IfOk, OnOk};
 ghost use Rattle.std.specs.List.{All, list_any};
 ghost use Rattle.inc_graph.specs.declared.graphs.Blocker as graphs;
-ghost use Rattle.inc_report.specs.BlockedReasons.{any_name_line, blocked_reasons, blocker_reason, blocker_reason_words, drop_line, drop_word, glob_byte, is_computed, undefine_line};
+ghost use Rattle.inc_lookup.specs.declared.projects.DirectiveId as declared;
+ghost use Rattle.inc_report.specs.BlockedReasons.{any_name_line, blocked_reasons, blocker_reason, blocker_reason_words, drop_line, drop_word, glob_byte, is_computed, reason_start, undefine_line};
+ghost use Rattle.inc_report.specs.AnswerNotes.{definition_lines};
 
+use crate::answer_notes::put_definitions;
 use crate::fault_reasons::put_reason;
 use crate::missing_notes::{Notes, put_byte, put_number};
 use crate::near_names::{most_of, put_more};
 use inc_graph::{Blocker, BlockerKind};
-use inc_lookup::Project;
+use inc_lookup::{DirectiveId, Project};
 use std::alloc::{AllocError, Global};
 
-/// What is said beside the refusal by these blockers.
+/// What is said beside the refusal by these blockers, where files define names that no build defines at these places.
 pub(crate) fn blocked_reasons(
     alloc: Global,
     project: &Project<'_>,
+    definitions: &[DirectiveId],
     blockers: &[Blocker],
 ) -> Result<Notes, AllocError>
-    requires { All (λ (b : Blocker). b.file < length project.now.paths) blockers.now }
-    ensures { IfOk result (λ notes. notes ≡ blocked_reasons project.now blockers.now) }
+    requires definitions { All (λ (d : declared.DirectiveId). d.file < length project.now.paths) definitions.now }
+    requires blockers { All (λ (b : Blocker). b.file < length project.now.paths) blockers.now }
+    ensures { IfOk result (λ notes. notes ≡ blocked_reasons project.now definitions.now blockers.now) }
 {
     let count = most_of(blockers.len());
     let mut text = Vec::new(alloc);
     put_blockers(&mut text, project, &blockers[..count])?;
     put_more(&mut text, blockers.len() - count)?;
-    put_any_name(&mut text, &blockers[..count])?;
+    put_undefined(&mut text, project, definitions, &blockers[..count])?;
     put_drops(&mut text, project, &blockers[..count])?;
     Ok(Notes::of(text))
 }
@@ -68,14 +73,28 @@ pub(crate) fn reason_words(kind: BlockerKind) -> &'static [u8]
     }
 }
 
+/// Adds where files define names that no build defines, and the line that leaves some name undefined.
+fn put_undefined(
+    text: &mut Vec<u8>,
+    project: &Project<'_>,
+    definitions: &[DirectiveId],
+    blockers: &[Blocker],
+) -> Result<(), AllocError>
+    requires { All (λ (d : declared.DirectiveId). d.file < length project.now.paths) definitions.now }
+    ensures { OnOk result (text.new.items ≡ text.old.items
+        ++ (definition_lines reason_start project.now definitions.now ++ any_name_line blockers.now)) }
+{
+    put_definitions(text, b"incut: ", project, definitions)?;
+    put_any_name(text, blockers)?;
+    Ok(())
+}
+
 /// Adds the line that leaves some name undefined, where macros make the name of a header.
 fn put_any_name(text: &mut Vec<u8>, blockers: &[Blocker]) -> Result<(), AllocError>
     ensures { OnOk result (text.new.items ≡ text.old.items ++ any_name_line blockers.now) }
 {
     if has_computed(blockers) {
-        let words =
-            b" --undefined NAME; where that is given, cut --format gcc says which file defines it";
-        return put_undefine(text, words);
+        return put_undefine(text, b" --undefined NAME");
     }
     Ok(())
 }

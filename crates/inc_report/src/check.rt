@@ -11,10 +11,10 @@ ghost use Rattle.inc_report.specs.Sending.{Sends};
 ghost use Rattle.inc_report.specs.Strictness.{Strict, open_strays_of};
 ghost use Rattle.inc_report.specs.Writing.{Prints, Writes, unread_of};
 
+use crate::answer_notes::empty_notes;
 use crate::asked::{Limits, Question};
 use crate::limits::{amounts_of, refuse_hindrance};
 use crate::lines::{send_line, send_number};
-use crate::missing_notes::empty_notes;
 use crate::outcome::{End, EndKind, RunFault, noted};
 use crate::output::Output;
 use crate::questions::{find_graph, refuse_question};

@@ -13,11 +13,11 @@ ghost use Rattle.inc_report.specs.Sending.{Sends};
 ghost use Rattle.inc_report.specs.Strictness.{Strict, strays_of};
 ghost use Rattle.inc_report.specs.Writing.{Prints, Writes, is_of_certificate, unread_of};
 
+use crate::answer_notes::empty_notes;
 use crate::asked::Question;
 use crate::cost_groups::{RankedGroups, rank_groups, send_groups};
 use crate::edges::send_edges;
 use crate::lines::{send_count_line, send_line, send_number};
-use crate::missing_notes::empty_notes;
 use crate::outcome::{End, EndKind, RunFault, noted};
 use crate::output::Output;
 use crate::questions::{find_graph, refuse_question};
@@ -256,7 +256,7 @@ fn send_ranked<W: ByteSink>(
 }
 
 /// Sends how many includes are not found, and of how many nothing can be said.
-fn send_unknown<W: ByteSink>(out: &mut Output<W>, graph: &Graph)
+pub(crate) fn send_unknown<W: ByteSink>(out: &mut Output<W>, graph: &Graph)
     ensures { Sends out.old out.new (unknown_text graph.now) }
 {
     send_count_line(out, b"missing", graph.missing().len());
@@ -264,7 +264,7 @@ fn send_unknown<W: ByteSink>(out: &mut Output<W>, graph: &Graph)
 }
 
 /// Sends what all sources reach together, and how many there are.
-fn send_total<W: ByteSink>(out: &mut Output<W>, total: u64, sources: usize)
+pub(crate) fn send_total<W: ByteSink>(out: &mut Output<W>, total: u64, sources: usize)
     ensures { Sends out.old out.new (total_line total sources) }
 {
     out.send(b"cost ");

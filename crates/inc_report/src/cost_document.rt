@@ -57,7 +57,7 @@ pub(crate) fn cost_document(
 }
 
 /// Adds how many sources there are, and what they reach together.
-fn add_total(
+pub(crate) fn add_total(
     document: &mut Document,
     alloc: Global,
     total: u64,

@@ -10,18 +10,19 @@ ghost use Rattle.inc_check.specs.Texts.{is_short_mark, lines_text, times_text, c
 ghost use Rattle.inc_report.specs.CutText.{WithAmounts, IsCutBy, IsFixedPrinted};
 ghost use Rattle.inc_report.specs.Fitting.{is_fit_chain, counted_as, IsFitCutOf};
 ghost use Rattle.inc_report.specs.Headline.{CutHeadline};
-ghost use Rattle.inc_report.specs.MissingNotes.{empty_notes};
+ghost use Rattle.inc_report.specs.AnswerNotes.{empty_notes};
 ghost use Rattle.inc_report.specs.Printed.{Printed};
 ghost use Rattle.inc_report.specs.Questions.{FailsAt};
 ghost use Rattle.inc_report.specs.Sending.{Sends};
 ghost use Rattle.inc_report.specs.Strictness.{Strict, open_strays_of};
 ghost use Rattle.inc_report.specs.Writing.{Prints, SendsWhole, Writes, is_of_certificate, unread_of};
 
+use crate::answer_notes::empty_notes;
 use crate::asked::{Limits, Question};
 use crate::edges::{send_edges, send_list};
 use crate::limits::{amounts_of, refuse_hindrance};
 use crate::lines::{send_count_line, send_number};
-use crate::missing_notes::{Notes, empty_notes};
+use crate::missing_notes::Notes;
 use crate::outcome::{End, EndKind, RunFault, noted};
 use crate::output::Output;
 use crate::questions::{find_graph, refuse_question};
@@ -170,7 +171,7 @@ fn send_answer<W: ByteSink>(
     notes: Notes,
 ) -> End
     requires files { graph.now.files ≡ length project.now.paths }
-    requires notes { notes ≡ empty_notes project.now graph.now.missing }
+    requires notes { notes ≡ empty_notes project.now graph.now }
     requires answer { IsCutAnswer graph.now fixed.now answer.now }
     requires few { HasFewChains graph.now answer.now }
     ensures { (p : Printed) × IsFitCutOf project.now graph.now fixed.now p × SendsWhole p out.old out.new result }
@@ -194,7 +195,7 @@ pub(crate) fn send_fixed<W: ByteSink>(
     notes: Notes,
 ) -> End
     requires files { graph.now.files ≡ length project.now.paths }
-    requires notes { notes ≡ empty_notes project.now graph.now.missing }
+    requires notes { notes ≡ empty_notes project.now graph.now }
     requires chain { IsFixedChain graph.now (fixed_by fixed.now) chain.now.edges }
     ensures { (p : Printed) × IsFixedPrinted project.now graph.now fixed.now p × SendsWhole p out.old out.new result }
 {

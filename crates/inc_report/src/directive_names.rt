@@ -410,7 +410,7 @@ fn put_target(text: &mut Vec<u8>, target: Target<'_>) -> Result<(), AllocError>
 }
 
 /// Adds a name between two texts.
-fn put_between(
+pub(crate) fn put_between(
     text: &mut Vec<u8>,
     before: &[u8],
     name: &[u8],

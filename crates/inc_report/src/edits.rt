@@ -12,13 +12,13 @@ ghost use Rattle.inc_report.specs.Sending.{Sends};
 ghost use Rattle.inc_report.specs.Strictness.{Strict, open_strays_of};
 ghost use Rattle.inc_report.specs.Writing.{Prints, Writes, is_of_certificate, unread_of};
 
+use crate::answer_notes::empty_notes;
 use crate::asked::{Limits, Question};
 use crate::blank::send_files;
 use crate::changes::{Change, changes_of, directives_of};
 use crate::cut::{nearest_cut, send_fixed};
 use crate::kept_sources::{KeptFiles, KeptSources};
 use crate::limits::{amounts_of, refuse_hindrance};
-use crate::missing_notes::empty_notes;
 use crate::outcome::{End, EndKind, RunFault, noted};
 use crate::output::Output;
 use crate::patch::send_patch;

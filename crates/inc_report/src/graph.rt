@@ -11,9 +11,10 @@ ghost use Rattle.inc_report.specs.Sending.{Sends};
 ghost use Rattle.inc_report.specs.Strictness.{Strict, strays_of};
 ghost use Rattle.inc_report.specs.Writing.{Prints, Writes, is_of_certificate, unread_of};
 
+use crate::answer_notes::definition_notes;
 use crate::asked::Question;
 use crate::lines::{send_count_line, send_directive, send_line};
-use crate::outcome::{End, EndKind, RunFault, plain};
+use crate::outcome::{End, EndKind, RunFault, noted};
 use crate::output::Output;
 use crate::questions::{find_graph, refuse_question};
 use crate::strictness::{refuse_strays, strays_of};
@@ -84,13 +85,14 @@ fn list_strictly<W: ByteSink>(
 {
     let strays = strays_of(alloc, question, graph)?;
     if strays.is_empty() {
-        return list_graph(project, graph, out);
+        return list_graph(alloc, project, graph, out);
     }
     refuse_strays(alloc, project, graph, &strays, out)
 }
 
 /// Sends the text of a graph.
 fn list_graph<W: ByteSink>(
+    alloc: Global,
     project: &Project<'_>,
     graph: &Graph,
     out: &mut Output<W>,
@@ -100,8 +102,9 @@ fn list_graph<W: ByteSink>(
     ensures read { IfErr result (λ f. unread_of f ≡ None) }
     ensures certificate { IfErr result (λ f. is_of_certificate f ≡ false) }
 {
+    let notes = definition_notes(alloc, project, graph)?;
     send_graph(out, project, graph);
-    Ok(plain(EndKind::Answered))
+    Ok(noted(EndKind::Answered, notes))
 }
 
 /// Sends the text of a graph.

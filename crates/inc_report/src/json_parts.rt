@@ -473,7 +473,7 @@ impl<'s> JsonText<'s> {
 }
 
 /// The edge with a number, if the graph has one.
-fn edge_of(graph: &Graph, edge: EdgeId) -> Option<&Edge>
+pub(crate) fn edge_of(graph: &Graph, edge: EdgeId) -> Option<&Edge>
     ensures { option_map (λ e. seen_edge e.now) result ≡ slice_get graph.now.edges edge }
 {
     match graph.edges().get(edge.index()) {

@@ -1,7 +1,9 @@
 //! The texts of the answers, and the calls that write them.
 #![tactic(auto)]
 
+mod answer_notes;
 mod asked;
+mod baseline;
 mod blank;
 pub mod blanking_laws;
 mod blocked_reasons;
@@ -54,20 +56,27 @@ mod refusals;
 mod rules;
 mod rules_document;
 mod rules_json;
+mod rules_sarif;
 mod scan;
 mod scan_forms;
 mod sized_sources;
 mod source_endings;
+mod stack_names;
 mod stop_reasons;
 mod strictness;
 mod subjects;
+mod tree_document;
+mod tree_json;
+mod trees;
 mod useful_dirs;
+mod ways;
 mod who;
 mod who_document;
 mod why;
 mod why_document;
 
 pub use asked::{CostWords, Details, Limits, PpQuestion, Question, RuleList};
+pub use baseline::run_baseline;
 pub use check::run_check;
 pub use cost::run_cost;
 pub use cut::run_cut;
@@ -79,6 +88,8 @@ pub use named::{Asked, Format, NamedForm, run_named};
 pub use outcome::{End, EndKind, RunFault};
 pub use pp::run_pp;
 pub use rules::run_rules;
+pub use rules_sarif::run_sarif;
 pub use scan::{ScanForm, run_scan, run_scan_owned, run_scan_too_long};
+pub use trees::{TreeForm, run_trees};
 pub use who::run_who;
 pub use why::run_why;

@@ -4,6 +4,7 @@ ghost use Rattle.std.specs.Prelude.{◌≡◌, ◌<◌, ◌≢◌, [], None, len
 ghost use Rattle.std.specs.List.{All};
 ghost use Rattle.inc_graph.specs.MarkedEdges.{amounts_by, marks_fault};
 ghost use Rattle.inc_graph.specs.declared.fixing.FixedFault.TheVariants as fault;
+ghost use Rattle.inc_lookup.specs.declared.projects.DirectiveId as declared;
 ghost use Rattle.inc_report.specs.CutText.{IsHindrance, blocked, refusal_of_fault, marks_refusal, Unhindered};
 ghost use Rattle.inc_report.specs.Refusals.{Blocked, refusal_for};
 ghost use Rattle.inc_report.specs.Views.{seen_refusal};
@@ -19,7 +20,7 @@ use crate::outcome::{End, EndKind, RunFault, noted};
 use crate::output::Output;
 use crate::refusals::{Refusal, refuse_for};
 use inc_graph::{Blocker, Fixed, FixedFault, Graph};
-use inc_lookup::Project;
+use inc_lookup::{DirectiveId, Project};
 use inc_text::ByteSink;
 use std::alloc::Global;
 
@@ -76,12 +77,14 @@ pub(crate) fn refuse_hindrance<W: ByteSink>(
     requires files { graph.now.files ≡ length project.now.paths }
     requires hindered { cause ≢ Hindrance.Marks fault.NoMemory →
         IsHindrance project.now graph.now limits.now cause }
-    ensures sent { Prints (Unhindered project.now graph.now.blockers
+    ensures sent { Prints (Unhindered project.now graph.now.definitions graph.now.blockers
         (marks_refusal project.now graph.now limits.now.fixed limits.now.costs) (λ p. ⊥)) out.old out.new result }
     ensures fault { IfErr result (λ f. f ≡ RunFault.NoMemory) }
 {
     match cause {
-        Hindrance::Blocked => refuse_blocked(alloc, project, graph.blockers(), out),
+        Hindrance::Blocked => {
+            refuse_blocked(alloc, project, graph.definitions(), graph.blockers(), out)
+        }
         Hindrance::Marks(fault) => match refusal_of(fault, limits) {
             Some(refusal) => {
                 let reason = marks_reason(alloc, project, graph, limits, fault)?;
@@ -120,14 +123,16 @@ pub(crate) fn refusal_of<'l>(fault: FixedFault, limits: &Limits<'l>) -> Option<R
 fn refuse_blocked<W: ByteSink>(
     alloc: Global,
     project: &Project<'_>,
+    definitions: &[DirectiveId],
     blockers: &[Blocker],
     out: &mut Output<W>,
 ) -> Result<End, RunFault>
-    requires { All (λ (b : Blocker). b.file < length project.now.paths) blockers.now }
-    ensures sent { Prints (λ p. p ≡ blocked project.now blockers.now) out.old out.new result }
+    requires definitions { All (λ (d : declared.DirectiveId). d.file < length project.now.paths) definitions.now }
+    requires blockers { All (λ (b : Blocker). b.file < length project.now.paths) blockers.now }
+    ensures sent { Prints (λ p. p ≡ blocked project.now definitions.now blockers.now) out.old out.new result }
     ensures fault { IfErr result (λ f. f ≡ RunFault.NoMemory) }
 {
-    let reasons = blocked_reasons(alloc, project, blockers)?;
+    let reasons = blocked_reasons(alloc, project, definitions, blockers)?;
     Ok(send_blocked(project, blockers, reasons, out))
 }
 

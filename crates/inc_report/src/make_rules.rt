@@ -43,7 +43,7 @@ fn rule_of(alloc: Global, project: &Project<'_>, reads: &[FileId]) -> Result<Vec
 }
 
 /// The path of a file; none where it is of another project.
-fn path_of<'p>(project: &'p Project<'_>, file: FileId) -> &'p [u8]
+pub(crate) fn path_of<'p>(project: &'p Project<'_>, file: FileId) -> &'p [u8]
     ensures { result.now ≡ path_at project.now file }
 {
     if file.index() < project.count() {

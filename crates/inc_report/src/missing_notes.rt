@@ -4,14 +4,12 @@ ghost use Rattle.std.specs.List.{All};
 ghost use Rattle.inc_graph.specs.MissingLists as graphs;
 ghost use Rattle.inc_graph.specs.MissingLists.{seen_missing};
 ghost use Rattle.inc_report.specs.MissingNames.{missing_names};
-ghost use Rattle.inc_report.specs.MissingNotes.{directory_before, empty_line, empty_notes, empty_words, found_line, found_note, hex_digit, missing_note, more_note, name_line, name_note, names_note, never_line, never_note, note_start, padding, shown, shown_byte, unreached_line, unreached_notes, unreached_words};
-ghost use Rattle.inc_report.specs.Terms.{is_whole};
+ghost use Rattle.inc_report.specs.MissingNotes.{directory_before, empty_line, empty_lines, empty_words, found_line, found_note, hex_digit, missing_note, more_note, name_line, name_note, names_note, never_line, never_note, note_start, padding, shown, shown_byte, unreached_line, unreached_lines, unreached_words};
 ghost use Rattle.inc_report.specs.Views.{AreWithin, named_by, seen_name};
 
-use crate::asked::Question;
 use crate::missing_names::{MOST_NAMES, MissingName, MissingNames, spelled};
 use crate::useful_dirs::put_useful;
-use inc_graph::{Blocker, Graph, HeaderName, Missing, MissingList};
+use inc_graph::{Blocker, HeaderName, Missing, MissingList};
 use inc_lookup::Project;
 use itoa::Buffer;
 use std::alloc::{AllocError, Global};
@@ -59,66 +57,63 @@ impl Notes {
     }
 }
 
-/// The notes beside an answer that takes headers that are not found as empty.
-pub(crate) fn empty_notes(
+/// Adds what is noted where an answer takes headers that are not found as empty.
+pub(crate) fn put_empty(
+    text: &mut Vec<u8>,
     alloc: Global,
     project: &Project<'_>,
-    graph: &Graph,
-) -> Result<Notes, AllocError>
-    requires { graph.now.files ≡ length project.now.paths }
-    ensures { IfOk result (λ notes. notes ≡ empty_notes project.now graph.now.missing) }
+    missing: &MissingList,
+) -> Result<(), AllocError>
+    requires { All (λ (m : graphs.Missing). m.file < length project.now.paths) missing.now }
+    ensures { OnOk result (text.new.items ≡ text.old.items ++ empty_lines project.now missing.now) }
 {
-    let missing = graph.missing();
     if missing.len() == 0 {
-        return Ok(Notes::none());
+        return Ok(());
     }
-    let mut text = Vec::new(alloc);
-    put_empty_line(&mut text, missing.len())?;
-    put_missing(&mut text, alloc, project, missing)?;
-    Ok(Notes::of(text))
+    put_empty_line(text, missing.len())?;
+    put_missing(text, alloc, project, missing)?;
+    Ok(())
 }
 
-/// The notes beside the answer that no header is reached.
-pub(crate) fn unreached_notes(
+/// Adds what is noted where no header is reached, with these blockers and these headers that are not found.
+pub(crate) fn put_unreached(
+    text: &mut Vec<u8>,
     alloc: Global,
     project: &Project<'_>,
-    question: &Question<'_>,
-    graph: &Graph,
-) -> Result<Notes, AllocError>
-    requires { graph.now.files ≡ length project.now.paths }
-    ensures { IfOk result (λ notes.
-        notes ≡ unreached_notes (is_whole question.now) project.now graph.now.blockers graph.now.missing) }
+    is_whole: bool,
+    blockers: &[Blocker],
+    missing: &MissingList,
+) -> Result<(), AllocError>
+    requires { All (λ (m : graphs.Missing). m.file < length project.now.paths) missing.now }
+    ensures { OnOk result (text.new.items ≡ text.old.items ++ unreached_lines is_whole project.now blockers.now missing.now) }
 {
-    let missing = graph.missing();
     if missing.len() == 0 {
-        return never_note(alloc, question.is_whole(), graph.blockers());
+        put_never(text, is_whole, blockers)?;
+        return Ok(());
     }
-    let mut text = Vec::new(alloc);
-    put_unreached_line(&mut text, missing.len())?;
-    put_missing(&mut text, alloc, project, missing)?;
-    Ok(Notes::of(text))
+    put_unreached_line(text, missing.len())?;
+    put_missing(text, alloc, project, missing)?;
+    Ok(())
 }
 
-/// The note that no configuration leads to a header, where no blocker is and the files are read as they are.
-fn never_note(alloc: Global, is_whole: bool, blockers: &[Blocker]) -> Result<Notes, AllocError>
-    ensures { IfOk result (λ notes. notes ≡ never_note is_whole blockers.now) }
+/// Adds the note that no configuration leads to a header, where no blocker is and the files are read as they are.
+fn put_never(text: &mut Vec<u8>, is_whole: bool, blockers: &[Blocker]) -> Result<(), AllocError>
+    ensures { OnOk result (text.new.items ≡ text.old.items ++ never_note is_whole blockers.now) }
 {
     match blockers {
-        [] => never_note_if(alloc, is_whole),
-        _ => Ok(Notes::none()),
+        [] => put_never_if(text, is_whole),
+        _ => Ok(()),
     }
 }
 
 /// That note, or none.
-fn never_note_if(alloc: Global, is_whole: bool) -> Result<Notes, AllocError>
-    ensures { IfOk result (λ notes. notes ≡ never_note is_whole []) }
+fn put_never_if(text: &mut Vec<u8>, is_whole: bool) -> Result<(), AllocError>
+    ensures { OnOk result (text.new.items ≡ text.old.items ++ never_note is_whole []) }
 {
-    if !is_whole {
-        return Ok(Notes::none());
+    if is_whole {
+        return put_never_line(text);
     }
-    let mut text = Vec::new(alloc);
-    put_never_line(&mut text)?;
-    Ok(Notes::of(text))
+    Ok(())
 }
 
 /// Adds the line that no configuration leads to a header.

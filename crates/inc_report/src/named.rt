@@ -29,6 +29,7 @@ ghost use Rattle.inc_rules.specs.Views.{seen_judged};
 ghost use Rattle.inc_report.specs.WhyText.{why_kind, why_notes};
 ghost use Rattle.inc_report.specs.Writing.{Prints, Writes, is_of_certificate, unread_of};
 
+use crate::answer_notes::{definition_notes, empty_notes, unreached_notes};
 use crate::asked::{Details, Limits, Question, RuleList};
 use crate::cut::nearest_cut;
 use crate::cut_document::{ChainForm, cut_document, fixed_document};
@@ -42,8 +43,8 @@ use crate::json_refusals::{blocked_json, refusal_json, strays_json};
 use crate::kept_sources::KeptSources;
 use crate::limits::{Hindrance, amounts_of, refusal_of, send_blocked};
 use crate::mark_reasons::marks_reason;
-use crate::missing_notes::{Notes, empty_notes, unreached_notes};
-use crate::named_costs::tell_costs;
+use crate::missing_notes::Notes;
+use crate::named_costs::{tell_costs, tell_trees};
 use crate::named_reasons::named_reasons;
 use crate::outcome::{End, EndKind, RunFault, reached_kind};
 use crate::output::Output;
@@ -79,6 +80,8 @@ pub enum Asked {
     Rules,
     /// What includes cost, as [`run_cost`](crate::run_cost) prints it.
     Cost,
+    /// What comes in through each file of the trees of sources, as [`run_trees`](crate::run_trees) prints it.
+    Tree,
 }
 
 impl Asked {
@@ -87,7 +90,7 @@ impl Asked {
         ensures { result ≡ asks_headers self }
     {
         match self {
-            Asked::Graph | Asked::Rules | Asked::Cost => false,
+            Asked::Graph | Asked::Rules | Asked::Cost | Asked::Tree => false,
             _ => true,
         }
     }
@@ -102,7 +105,7 @@ impl Asked {
             Asked::Graph => b"graph",
             Asked::Cut => b"cut",
             Asked::Rules => b"rules",
-            Asked::Cost => b"cost",
+            Asked::Cost | Asked::Tree => b"cost",
         }
     }
 }
@@ -205,7 +208,7 @@ fn answer<S: Sources, W: ByteSink>(
 }
 
 /// Sends why a question has no graph.
-fn refuse<W: ByteSink>(
+pub(crate) fn refuse<W: ByteSink>(
     alloc: Global,
     project: &Project<'_>,
     question: &Question<'_>,
@@ -303,7 +306,7 @@ fn asked_strays_of(
 }
 
 /// The refusal by these directives, as an object of JSON.
-fn strays_report(
+pub(crate) fn strays_report(
     alloc: Global,
     subject: Subject<'_>,
     strays: &[usize],
@@ -346,6 +349,7 @@ fn answer_graph<W: ByteSink>(
         Asked::Cut => separate(alloc, subject, question, details, form, out),
         Asked::Rules => Ok(rule(alloc, subject, details.rules, form)?.send(out)),
         Asked::Cost => Ok(tell_costs(alloc, subject, details.costs, form)?.send(out)),
+        Asked::Tree => Ok(tell_trees(alloc, subject, form)?.send(out)),
     }
 }
 
@@ -382,7 +386,7 @@ fn notes_if(
         ≡ why_notes (is_whole question.now) subject.entry.project.now subject.entry.graph.now (chain_found found chain)) }
 {
     if found {
-        return Ok(Notes::none());
+        return definition_notes(alloc, subject.project, subject.graph);
     }
     unreached_notes(alloc, subject.project, question, subject.graph)
 }
@@ -524,7 +528,7 @@ fn list(alloc: Global, subject: Subject<'_>, form: NamedForm) -> Result<Told, Al
     Ok(Told {
         text: graph_text(alloc, subject, form)?,
         kind: EndKind::Answered,
-        notes: Notes::none(),
+        notes: definition_notes(alloc, subject.project, subject.graph)?,
     })
 }
 
@@ -574,7 +578,7 @@ fn rule(
 }
 
 /// The text of rules of a list with this name.
-fn rules_text(
+pub(crate) fn rules_text(
     alloc: Global,
     subject: Subject<'_>,
     name: &[u8],

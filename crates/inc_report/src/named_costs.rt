@@ -2,25 +2,30 @@
 ghost use Rattle.std.specs.Prelude.{◌≡◌, ◌<◌, ℕ, List, [], None, length, IfOk};
 ghost use Rattle.std.specs.List.{All};
 ghost use Rattle.std.specs.Option.{option_map_or};
+ghost use Rattle.inc_cost.specs.declared.branches.Branch.{Branch};
 ghost use Rattle.inc_report.specs.CostViews.{IsInside, seen_ranked};
 ghost use Rattle.inc_report.specs.DotText.{dot_text, drawn};
 ghost use Rattle.inc_report.specs.FileSizes.{kept_sizes};
 ghost use Rattle.inc_report.specs.JsonAnswers.{about_subject};
 ghost use Rattle.inc_report.specs.KeptFiles.{kept_at};
-ghost use Rattle.inc_report.specs.NamedText.{IsCostReport, cost_answer};
+ghost use Rattle.inc_report.specs.NamedText.{AreTreesReported, IsCostReport, cost_answer, tree_answer};
 ghost use Rattle.inc_report.specs.RuleViews.{seen_costs};
 ghost use Rattle.inc_report.specs.Told.{told_printed};
 
+use crate::answer_notes::empty_notes;
 use crate::asked::CostWords;
 use crate::cost::{Ranked, id_of, rank_costs};
 use crate::cost_document::cost_document;
 use crate::cost_json::cost_json;
-use crate::dot_text::edges_dot;
+use crate::dot_text::{edges_dot, graph_dot};
 use crate::kept_sources::KeptFiles;
-use crate::missing_notes::empty_notes;
 use crate::named::{Format, NamedForm, lines_of};
 use crate::outcome::EndKind;
 use crate::subjects::{Subject, Told};
+use crate::tree_document::tree_document;
+use crate::tree_json::tree_json;
+use crate::trees::tree_branches;
+use inc_cost::{Branch, total};
 use inc_graph::{EdgeId, Graph};
 use inc_lookup::Project;
 use std::alloc::{AllocError, Global};
@@ -50,6 +55,56 @@ pub(crate) fn tell_costs(
         kind: EndKind::Answered,
         notes,
     })
+}
+
+/// What comes in through each file of the trees of a graph, by the bytes that are kept of its files.
+pub(crate) fn tell_trees(
+    alloc: Global,
+    subject: Subject<'_>,
+    form: NamedForm,
+) -> Result<Told, AllocError>
+    requires { subject.graph.now.files ≡ length subject.project.now.paths }
+    ensures { IfOk result (λ told. AreTreesReported form (kept_sizes subject.entry.files.now (length subject.entry.project.now.paths))
+        (about_subject subject.entry) (told_printed told)) }
+{
+    let Subject {
+        project,
+        graph,
+        files,
+        ..
+    } = subject;
+    let sizes = kept_sizes(alloc, project, files)?;
+    let total = total(alloc, graph, &sizes, &[])?;
+    let branches = tree_branches(alloc, graph, &sizes)?;
+    let notes = empty_notes(alloc, project, graph)?;
+    Ok(Told {
+        text: tree_text(alloc, subject, total, &branches, form.format)?,
+        kind: EndKind::Answered,
+        notes,
+    })
+}
+
+/// The text of trees; their graph is that of all edges.
+fn tree_text(
+    alloc: Global,
+    subject: Subject<'_>,
+    total: u64,
+    branches: &[Branch],
+    format: Format,
+) -> Result<Vec<u8>, AllocError>
+    requires files { subject.graph.now.files ≡ length subject.project.now.paths }
+    requires within { All (λ (b : Branch). b.file < length subject.project.now.paths) branches.now }
+    ensures { IfOk result (λ text. text.items ≡ tree_answer format (about_subject subject.entry) total branches.now) }
+{
+    match format {
+        Format::Gcc => {
+            let Subject { project, graph, .. } = subject;
+            let document = tree_document(alloc, project, graph, total, branches)?;
+            lines_of(alloc, subject, &document)
+        }
+        Format::Json => tree_json(alloc, subject, total, branches),
+        Format::Dot => graph_dot(alloc, subject),
+    }
 }
 
 /// How many bytes are kept of each file.

@@ -1,6 +1,6 @@
 //! How a call that prints ends.
 ghost use Rattle.std.specs.Prelude.{◌≡◌, []};
-ghost use Rattle.inc_report.specs.Printed.{end_of, reached_kind, with_texts};
+ghost use Rattle.inc_report.specs.Printed.{end_of, reached_kind, with_baseline, with_texts};
 ghost use Rattle.inc_report.specs.declared.outcome.RunFault.TheVariants.{Write, NoMemory};
 
 use crate::file_texts::FileText;
@@ -24,6 +24,8 @@ pub struct End {
     pub endings: FileText,
     /// In words where and why sources stopped, a line for each that did.
     pub stops: Notes,
+    /// The lines of a baseline, where one is asked for.
+    pub baseline: FileText,
 }
 
 /// Whether a call that prints ends with its answer.
@@ -65,6 +67,7 @@ pub(crate) fn noted(kind: EndKind, notes: Notes) -> End
         rules: FileText::none(),
         endings: FileText::none(),
         stops: Notes::none(),
+        baseline: FileText::none(),
     }
 }
 
@@ -84,6 +87,7 @@ pub(crate) fn ended(
         rules,
         endings,
         stops,
+        baseline: FileText::none(),
     }
 }
 
@@ -92,6 +96,20 @@ pub(crate) fn texted(kind: EndKind, rules: FileText, endings: FileText, stops: N
     ensures { result ≡ with_texts rules endings stops (end_of [] kind) }
 {
     ended(kind, Notes::none(), rules, endings, stops)
+}
+
+/// How a call ends with the lines of a baseline, beside whose answer nothing is noted.
+pub(crate) fn lined(kind: EndKind, baseline: FileText) -> End
+    ensures { result ≡ with_baseline baseline (end_of [] kind) }
+{
+    End {
+        kind,
+        notes: Notes::none(),
+        rules: FileText::none(),
+        endings: FileText::none(),
+        stops: Notes::none(),
+        baseline,
+    }
 }
 
 /// Why a call that prints could not end.

@@ -8,7 +8,7 @@ ghost use Rattle.inc_check.specs.Texts.{line_text};
 ghost use Rattle.inc_report.specs.MarkTexts.{chains_text, list_text};
 ghost use Rattle.inc_report.specs.Questions.{FailsAt};
 ghost use Rattle.inc_report.specs.RulesHeadline.{RulesHeadline};
-ghost use Rattle.inc_report.specs.RulesText.{broken_text, judged_text, lacking_text, rules_kind, IsRulesOf, IsRulesBy};
+ghost use Rattle.inc_report.specs.RulesText.{broken_text, judged_text, lacking_text, rules_kind, rules_text, IsRulesOf, IsRulesBy};
 ghost use Rattle.inc_report.specs.Sending.{Sends};
 ghost use Rattle.inc_report.specs.Strictness.{Strict, strays_of};
 ghost use Rattle.inc_report.specs.Writing.{Prints, Writes, is_of_certificate, unread_of};
@@ -117,10 +117,24 @@ fn tell_graph<'r, W: ByteSink>(
     ensures certificate { IfErr result (λ f. is_of_certificate f ≡ false) }
 {
     let judged = judge(alloc, project, graph, rules)?;
-    send_count_line(out, b"rules", judged.len());
-    send_judged(out, project, graph, &judged);
-    send_unresolved(out, project, graph);
+    send_rules(out, project, graph, &judged);
     Ok(plain(rules_kind(&judged)))
+}
+
+/// Sends how many rules there are, each that is broken, and what is not known of the graph.
+pub(crate) fn send_rules<W: ByteSink>(
+    out: &mut Output<W>,
+    project: &Project<'_>,
+    graph: &Graph,
+    judged: &[Judged<'_>],
+)
+    requires files { graph.now.files ≡ length project.now.paths }
+    requires within { All (λ j. IsWithin graph.now (seen_judged j)) judged.now }
+    ensures { Sends out.old out.new (rules_text project.now graph.now (map seen_judged judged.now)) }
+{
+    send_count_line(out, b"rules", judged.len());
+    send_judged(out, project, graph, judged);
+    send_unresolved(out, project, graph);
 }
 
 /// How the call ends with these answers to rules.

@@ -10,11 +10,12 @@ ghost use Rattle.inc_report.specs.Terms.{is_whole};
 ghost use Rattle.inc_report.specs.WhoText.{chain_if, reaching_text, sources_text, who_kind, who_notes, IsWhoOf, IsWhoBy};
 ghost use Rattle.inc_report.specs.Writing.{Prints, Writes, is_of_certificate, unread_of};
 
+use crate::answer_notes::{definition_notes, unreached_notes};
 use crate::asked::Question;
 use crate::bounds::shown_count;
 use crate::edges::send_list;
 use crate::lines::{send_count_line, send_directive, send_more};
-use crate::missing_notes::{Notes, unreached_notes};
+use crate::missing_notes::Notes;
 use crate::outcome::{End, EndKind, RunFault, noted, reached_kind};
 use crate::output::Output;
 use crate::questions::{find_graph, refuse_question};
@@ -153,7 +154,7 @@ fn tell_graph<W: ByteSink>(
     Ok(noted(kind, notes))
 }
 
-/// The notes beside the answer that these sources reach a header: there are some where none does.
+/// The notes beside the answer that these sources reach a header: of headers that are not found where none does.
 pub(crate) fn notes_of(
     alloc: Global,
     project: &Project<'_>,
@@ -167,7 +168,7 @@ pub(crate) fn notes_of(
     if reaching.count() == 0 {
         return unreached_notes(alloc, project, question, graph);
     }
-    Ok(Notes::none())
+    definition_notes(alloc, project, graph)
 }
 
 /// How the call ends with the answer that these sources reach a header.

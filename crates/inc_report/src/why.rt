@@ -13,12 +13,12 @@ ghost use Rattle.inc_report.specs.Terms.{is_whole};
 ghost use Rattle.inc_report.specs.WhyText.{unresolved_text, ways_text, why_text, IsWhyOf, IsWhyBy};
 ghost use Rattle.inc_report.specs.Writing.{Prints, Writes, is_of_certificate, unread_of};
 
+use crate::answer_notes::{definition_notes, unreached_notes};
 use crate::asked::Question;
 use crate::bounds::shown_count;
 use crate::edges::{send_blockers, send_list};
 use crate::lines::{send_count_line, send_directive, send_line, send_more};
-use crate::missing_notes::unreached_notes;
-use crate::outcome::{End, EndKind, RunFault, noted, plain, reached_kind};
+use crate::outcome::{End, EndKind, RunFault, noted, reached_kind};
 use crate::output::Output;
 use crate::questions::{find_graph, refuse_question};
 use crate::strictness::{refuse_strays, strays_of};
@@ -117,8 +117,9 @@ fn explain_graph<W: ByteSink>(
 {
     let mut chains = ShortestChains::new(alloc, graph)?;
     if chains.find_shortest() {
+        let notes = definition_notes(alloc, project, graph)?;
         send_reached(out, project, graph, &mut chains, most);
-        return Ok(plain(reached_kind(fails)));
+        return Ok(noted(reached_kind(fails), notes));
     }
     let notes = unreached_notes(alloc, project, question, graph)?;
     send_unreached(out, project, graph, &mut chains, most);

@@ -83,13 +83,13 @@ place_more p n =
     ap (filter p) (sym (map-id (range_with_len 0 (n + 1))) ∙ map-range_with_len_more (λ i. i) 0 n n (zero-add n) ∙ ap (λ (is : List ℕ). is ++ n ∷ []) (map-id (range_with_len 0 n)))
     ∙ filter-append p (range_with_len 0 n) (n ∷ [])
 
-range_within : (n : ℕ) → All (λ i. i < n) (range_with_len 0 n)
+pub range_within : (n : ℕ) → All (λ i. i < n) (range_with_len 0 n)
 range_within n k d low =
     let long = length-range_with_len 0 n in
     let at : get_or (range_with_len 0 n) k d ≡ 0 + k = get_or-range_with_len 0 n k d (omega (arith, low, long)) in
     omega (arith, at, low, long)
 
-range_rises : (n : ℕ) → IsStrictlyIncreasing (range_with_len 0 n)
+pub range_rises : (n : ℕ) → IsStrictlyIncreasing (range_with_len 0 n)
 range_rises n k low =
     let long = length-range_with_len 0 n in
     let here : slice_index_or (range_with_len 0 n) k 0 ≡ 0 + k = get_or-range_with_len 0 n k 0 (omega (arith, low, long)) in

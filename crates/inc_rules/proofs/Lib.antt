@@ -1,4 +1,7 @@
+mod BreakingLemmas
+mod BrokenWalks
 mod JudgeLemmas
+mod ReachingLemmas
 mod RuleExamples
 mod RuleLemmas
 mod SideLemmas

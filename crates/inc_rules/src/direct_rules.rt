@@ -13,7 +13,7 @@ use inc_lookup::FileId;
 use std::alloc::{AllocError, Global};
 
 /// Whether a file has a flag.
-fn has_flag(flags: &[bool], file: FileId) -> bool
+pub(crate) fn has_flag(flags: &[bool], file: FileId) -> bool
     ensures { result ≡ slice_index_or flags.now file false }
 {
     match flags.get(file.index()) {

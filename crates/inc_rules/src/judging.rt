@@ -101,7 +101,7 @@ fn by_chains<'r>(alloc: Global, rule: &'r Rule<'r>, chains: Vec<Vec<EdgeId>>) ->
 }
 
 /// A rule that these files break.
-fn by_files<'r>(alloc: Global, rule: &'r Rule<'r>, files: Vec<FileId>) -> Judged<'r>
+pub(crate) fn by_files<'r>(alloc: Global, rule: &'r Rule<'r>, files: Vec<FileId>) -> Judged<'r>
     ensures { seen_judged result ≡ record { rule = seen_rule rule.entry.now; chains = []; files = files.items } }
 {
     let chains = Vec::new(alloc);

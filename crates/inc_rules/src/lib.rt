@@ -1,11 +1,14 @@
 //! Rules: which files of a project may not reach or not include others, and which must include one.
 #![tactic(auto)]
 
+mod breaks;
 mod direct_rules;
 mod judging;
+pub mod laws;
 mod open_lines;
 mod parts;
 mod reach;
+mod reaching;
 mod reading;
 mod rule_files;
 mod rule_subjects;
@@ -14,6 +17,7 @@ mod rules;
 mod sides;
 mod words;
 
+pub use breaks::{breaking, lacking};
 pub use judging::{Judged, judge};
 pub use reading::read_rules;
 pub use rule_subjects::subjects;

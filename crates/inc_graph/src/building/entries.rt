@@ -21,11 +21,11 @@ pub(crate) enum Entry<H> {
     Blocker { line: u32, kind: BlockerKind },
     /// Its header is made of tokens that begin with a name that no build defines, by its place among those.
     ByName { name: u32, line: u32 },
-    /// No include directive: the file defines the name at this place among those that no build defines.
-    Defines { name: u32 },
+    /// No include directive: the line defines the name at this place among those that no build defines.
+    Defines { name: u32, line: u32 },
 }
 
-/// The include directives of a file from the top, the empty ones aside, and the names that it defines among those that no build defines.
+/// The include directives of a file from the top, the empty ones aside, and its definitions of names that no build defines.
 #[derive(Drop)]
 pub(crate) struct Entries {
     /// Each with the number of its header.
@@ -117,7 +117,7 @@ fn named(names: &HeaderNames, entry: Entry<u32>) -> Entry<HeaderName<'_>>
         },
         Entry::Blocker { line, kind } => Entry::Blocker { line, kind },
         Entry::ByName { name, line } => Entry::ByName { name, line },
-        Entry::Defines { name } => Entry::Defines { name },
+        Entry::Defines { name, line } => Entry::Defines { name, line },
     }
 }
 

@@ -6,9 +6,9 @@ ghost use Rattle.inc_directive.specs.Removal.{is_removable, stays};
 ghost use Rattle.inc_directive.specs.DirectiveViews.{seen_directive};
 ghost use Rattle.inc_directive.specs.Parts.{inclusions_in, lines_of_parts};
 ghost use Rattle.inc_lookup.specs.DirectiveLists.{is_listed};
-ghost use Rattle.inc_graph.specs.IncludeGraph.{named_place, found_by, lead_entry, name_entry, name_in, places_defined, undefined_place};
+ghost use Rattle.inc_graph.specs.IncludeGraph.{named_place, found_by, lead_entry, name_entry, name_in, defined_at, definitions_in, undefined_place};
 ghost use Rattle.inc_graph.specs.HeaderNames.{seen_name};
-ghost use Rattle.inc_graph.specs.FileEntries.{NamesNone, named_entry};
+ghost use Rattle.inc_graph.specs.FileEntries.{NamesNone, definition_entry, named_entry};
 ghost use Rattle.inc_graph.specs.Entries.{seen_direct, entry_alone, found_lead, bytes_entries, bytes_found, seen_state};
 ghost use Rattle.inc_graph.specs.Nexts.{nexts_from, next_of, next_by, bytes_nexts, bytes_directs, direct_at, directs_from, entry_count};
 ghost use Rattle.inc_graph.specs.ClosureSearch.{AreSeveral};
@@ -265,14 +265,14 @@ fn name_entry(setting: &Setting<'_>, name: &[u8], line: u32) -> Result<Entry<u32
     }
 }
 
-/// Adds the places of the names that a file defines among those that no build defines.
+/// Adds the definitions that a file has of names that no build defines.
 fn add_definitions(
     entries: &mut Entries,
     setting: &Setting<'_>,
     found: &FileLines,
 ) -> Result<(), AllocError>
     ensures { OnOk result (entries.new ≡ entries.old
-        ++ map Entry.Defines (places_defined setting.now.undefined (lines_of_parts found.now))) }
+        ++ map definition_entry (definitions_in setting.now.undefined (lines_of_parts found.now))) }
 {
     // Nearly always; then no line is looked at.
     if setting.undefined_count() == 0 {
@@ -280,24 +280,26 @@ fn add_definitions(
     }
     for i in 0..found.count() {
         if let Some(name) = found.defined_name(i) {
-            add_definition(entries, setting, name)?;
+            add_definition(entries, setting, name, found.first_line(i))?;
         }
     }
     Ok(())
 }
 
-/// Adds the place of a name that a file defines, if it is among those that no build defines.
+/// Adds the definition of a name on a line, if it is among those that no build defines.
 fn add_definition(
     entries: &mut Entries,
     setting: &Setting<'_>,
     name: &[u8],
+    line: u32,
 ) -> Result<(), AllocError>
     ensures { OnOk result (entries.new ≡ entries.old
-        ++ map Entry.Defines (option_to_list (undefined_place setting.now.undefined name.now))) }
+        ++ map definition_entry (option_to_list (option_map (defined_at line) (undefined_place setting.now.undefined name.now)))) }
 {
     if let Some(place) = setting.undefined_place(name) {
         entries.push(Entry::Defines {
             name: short(place)?,
+            line,
         })?;
     }
     Ok(())

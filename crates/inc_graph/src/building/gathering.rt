@@ -13,7 +13,7 @@ use crate::building::states::FileStates;
 use crate::graphs::{Blocker, BlockerKind, Edge, EdgeId, Parts};
 use crate::header_names::HeaderName;
 use crate::missing_lists::Missing;
-use inc_lookup::{FileId, Project};
+use inc_lookup::{DirectiveId, FileId, Project};
 use std::alloc::{AllocError, Global};
 
 /// The most directives of a graph: edges, missing ones and blockers together.
@@ -112,7 +112,7 @@ fn flag_definition(flags: &mut Vec<bool>, entry: &Entry<HeaderName<'_>>)
     ensures flags { (name : ℕ) → flag_at flags.new.items name
         ≡ flag_at flags.old.items name || (nat_lt name (length flags.old.items) && defines name (seen_entry entry.now)) }
 {
-    if let Entry::Defines { name } = entry {
+    if let Entry::Defines { name, .. } = entry {
         let name = *name as usize;
         if name < flags.len() {
             flags[name] = true;
@@ -207,7 +207,7 @@ fn add_entry(
                 })?;
             }
         }
-        Entry::Defines { .. } => (),
+        Entry::Defines { line, .. } => parts.definitions.push(DirectiveId { file, line: *line })?,
     }
     Ok(())
 }

@@ -22,7 +22,7 @@ returns-in-Ok g c known not =
     let o = opened_in c.args.opened.now in
     let layout = c.args.project.now in
     let b = built_in c.args.built in
-    let P = IsAnswered gives (IsKnown known gives (record { opens = g.I.Inputs.opens; left = g.I.Stream.ByteSource.left }) command) command in
+    let P = IsAnswered gives g.I.Inputs.puts (IsKnown known gives (record { opens = g.I.Inputs.opens; left = g.I.Stream.ByteSource.left }) command) command in
     let out = output_of (g.O.ByteSink.written c.args.out) (g.O.ByteSink.written c.ask_marked.result.1) (g.O.ByteSink.has_failed c.ask_marked.result.1) in
     run_then (accepted gives (listed_by language o layout) (baseline_of command) c.args.marks.without.items b.notes) (with_accepted language command q l c.args.marks.fixed.items o layout b) P
     c.args.inputs c.accepted_marks.new.inputs out (seen_end c.ask_marked.result.0) (seen_accepted c.accepted_marks.result) (accepted_in c.in-Ok.accepted) (ap seen_accepted c.in-Ok.is)
@@ -40,7 +40,7 @@ returns-in-Err g c known not =
     let b = built_in c.args.built in
     let written = g.O.ByteSink.written c.args.out in
     let keeps : Keeps written written = search rules in
-    let P = IsAnswered gives (IsKnown known gives (record { opens = g.I.Inputs.opens; left = g.I.Stream.ByteSource.left }) command) command in
+    let P = IsAnswered gives g.I.Inputs.puts (IsKnown known gives (record { opens = g.I.Inputs.opens; left = g.I.Stream.ByteSource.left }) command) command in
     let out = output_of written written (g.O.ByteSink.has_failed c.args.out) in
     run_err (accepted gives (listed_by language o layout) (baseline_of command) c.args.marks.without.items b.notes) (with_accepted language command q l c.args.marks.fixed.items o layout b) P
     c.args.inputs c.accepted_marks.new.inputs out _ (seen_accepted c.accepted_marks.result) (report_of c.in-Err.failure) (ap seen_accepted c.in-Err.is) refl c.accepted_marks.ensures keeps not

@@ -34,7 +34,7 @@ returns g c known not =
     let f = project_in c.args.found in
     let step = λ (q : Question). then (texts_beside gives f.list q l) (asked_by gives language command q l f.added) in
     let q = seen_question c.in-Ok.question in
-    let P = IsAnswered gives (IsKnown known gives (record { opens = g.I.Inputs.opens; left = g.I.Stream.ByteSource.left }) command) command in
+    let P = IsAnswered gives g.I.Inputs.puts (IsKnown known gives (record { opens = g.I.Inputs.opens; left = g.I.Stream.ByteSource.left }) command) command in
     let out = output_of (g.O.ByteSink.written c.args.out) (g.O.ByteSink.written c.ask_read.result.1) (g.O.ByteSink.has_failed c.ask_read.result.1) in
     let answer = seen_end c.ask_read.result.0 in
     let texts = seen_texts c.read_texts_beside-texts.result in

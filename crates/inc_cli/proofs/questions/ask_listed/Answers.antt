@@ -33,7 +33,7 @@ returns-in-Ok g c known not =
     let o = opened_in c.args.opened.now in
     let layout = c.args.project.now in
     let out = output_of (g.O.ByteSink.written c.args.out) (g.O.ByteSink.written c.ask_built.result.1) (g.O.ByteSink.has_failed c.ask_built.result.1) in
-    let P = IsAnswered g.I.Inputs.gives (IsKnown known g.I.Inputs.gives (record { opens = g.I.Inputs.opens; left = g.I.Stream.ByteSource.left }) command) command in
+    let P = IsAnswered g.I.Inputs.gives g.I.Inputs.puts (IsKnown known g.I.Inputs.gives (record { opens = g.I.Inputs.opens; left = g.I.Stream.ByteSource.left }) command) command in
     run_came (include_paths_of a.others) (with_others g.I.Inputs.gives language command q l a without fixed o layout) _ _ _ _ c.in-Ok.built.others.items c.in-Ok.ensures.others
     (subst (λ b. IsRun (asked_built g.I.Inputs.gives language command q l without fixed o layout b) P c.args.inputs out (seen_end c.ask_built.result.0)) c.in-Ok.ensures.built
     (c.ask_built.ensures known not))

@@ -35,7 +35,7 @@ returns g c known not =
     let places = places_in c.in-Ok.placed.places in
     let out = output_of (g.O.ByteSink.written c.args.out) (g.O.ByteSink.written c.ask_placed.result.1) (g.O.ByteSink.has_failed c.ask_placed.result.1) in
     let answer = seen_end c.ask_placed.result.0 in
-    let P = IsAnswered g.I.Inputs.gives (IsKnown known g.I.Inputs.gives (record { opens = g.I.Inputs.opens; left = g.I.Stream.ByteSource.left }) command) command in
+    let P = IsAnswered g.I.Inputs.gives g.I.Inputs.puts (IsKnown known g.I.Inputs.gives (record { opens = g.I.Inputs.opens; left = g.I.Stream.ByteSource.left }) command) command in
     run_came (ends_for command layout q) (with_ends language command q l without fixed o layout b) _ _ _ _ ends c.in-Ok.ensures.ends
     (run_came (places_of layout q l without fixed) (with_places language command q o layout b ends) _ _ _ _ places c.in-Ok.ensures.places
     (run_here (asked_for language command o layout b ends places (b.notes ++ notes_for command layout q)) P c.args.inputs out answer

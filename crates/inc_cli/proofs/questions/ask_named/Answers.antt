@@ -46,7 +46,7 @@ returns-in-Ok-None g c known not =
     let language = c.args.setup.now.language in
     let next = asked_with gives language command q l in
     let once : are_twice (list_names command q l) ≡ false = search rules in
-    let P = IsAnswered gives (IsKnown known gives (record { opens = g.I.Inputs.opens; left = g.I.Stream.ByteSource.left }) command) command in
+    let P = IsAnswered gives g.I.Inputs.puts (IsKnown known gives (record { opens = g.I.Inputs.opens; left = g.I.Stream.ByteSource.left }) command) command in
     let out = output_of (g.O.ByteSink.written c.args.out) (g.O.ByteSink.written c.ask_read.result.1) (g.O.ByteSink.has_failed c.ask_read.result.1) in
     let answer = seen_end c.ask_read.result.0 in
     let texts = seen_texts c.read_texts-texts.result in

@@ -16,7 +16,7 @@ pub returns-in-Ok : goal.returns-in-Ok
 returns-in-Ok g c known not =
     let command = seen_command c.args.asking.command in
     let next = asked_by g.I.Inputs.gives c.args.setup.now.language command (seen_question c.args.asking.question.now) (seen_limits c.args.asking.limits.now) (added_in c.args.added) in
-    let P = IsAnswered g.I.Inputs.gives (IsKnown known g.I.Inputs.gives (record { opens = g.I.Inputs.opens; left = g.I.Stream.ByteSource.left }) command) command in
+    let P = IsAnswered g.I.Inputs.gives g.I.Inputs.puts (IsKnown known g.I.Inputs.gives (record { opens = g.I.Inputs.opens; left = g.I.Stream.ByteSource.left }) command) command in
     let out = output_of (g.O.ByteSink.written c.args.out) (g.O.ByteSink.written c.ask_texts.result.1) (g.O.ByteSink.has_failed c.ask_texts.result.1) in
     let t = c.in-Ok.texts in
     let read : texts_with c.deref.result.now t.fixed.items t.without.items c.deref-in-Ok.result.now t.firsts ≡ texts_in t = search rules in
@@ -27,7 +27,7 @@ pub returns-in-Err : goal.returns-in-Err
 returns-in-Err g c known not =
     let command = seen_command c.args.asking.command in
     let next = asked_by g.I.Inputs.gives c.args.setup.now.language command (seen_question c.args.asking.question.now) (seen_limits c.args.asking.limits.now) (added_in c.args.added) in
-    let P = IsAnswered g.I.Inputs.gives (IsKnown known g.I.Inputs.gives (record { opens = g.I.Inputs.opens; left = g.I.Stream.ByteSource.left }) command) command in
+    let P = IsAnswered g.I.Inputs.gives g.I.Inputs.puts (IsKnown known g.I.Inputs.gives (record { opens = g.I.Inputs.opens; left = g.I.Stream.ByteSource.left }) command) command in
     let written = g.O.ByteSink.written c.args.out in
     let out = output_of written written (g.O.ByteSink.has_failed c.args.out) in
     let report = report_of c.in-Err.failure in

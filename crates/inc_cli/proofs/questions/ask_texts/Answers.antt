@@ -51,7 +51,7 @@ returns g c known not =
     let layout = c.in-Ok-named_project.project in
     let e : named_layout q.files o.paths o.path ≡ Ok layout = search rules in
     let out = output_of (g.O.ByteSink.written c.args.out) (g.O.ByteSink.written c.ask_listed.result.1) (g.O.ByteSink.has_failed c.ask_listed.result.1) in
-    let P = IsAnswered g.I.Inputs.gives (IsKnown known g.I.Inputs.gives (record { opens = g.I.Inputs.opens; left = g.I.Stream.ByteSource.left }) command) command in
+    let P = IsAnswered g.I.Inputs.gives g.I.Inputs.puts (IsKnown known g.I.Inputs.gives (record { opens = g.I.Inputs.opens; left = g.I.Stream.ByteSource.left }) command) command in
     let same = opened_made q t _ costs _ _ _ _ _ c.in-Ok.ensures.paths c.in-Ok.ensures.undefined c.in-Ok.ensures.external c.in-Ok.ensures.strict c.in-Ok.ensures.path c.in-Ok.ensures.firsts in
     run_judged (AreCosts (unwrap_or l.costs []) t.costs) (with_costs g.I.Inputs.gives language command q l a t) _ _ _ _ costs c.in-Ok.ensures.costs
     (run_came (named_layout q.files o.paths o.path) (asked_listed g.I.Inputs.gives language command q l a t.without t.fixed o) _ _ _ _ layout e

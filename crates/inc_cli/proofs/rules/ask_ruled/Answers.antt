@@ -19,12 +19,12 @@ returns-in-Ok g c not =
     let gives = g.I.Inputs.gives in
     let w = seen_rules c.args.words.now in
     let rs = map seen_rule c.args.rules.now in
-    let P = IsRuledBy gives (record { opens = g.I.Inputs.opens; left = g.I.Stream.ByteSource.left }) c.args.setup.now.language (seen_question c.args.question.now) (seen_limits c.args.limits.now) (rule_name w) c.args.format in
+    let P = IsRuledBy gives g.I.Inputs.puts (record { opens = g.I.Inputs.opens; left = g.I.Stream.ByteSource.left }) c.args.setup.now.language (seen_question c.args.question.now) (seen_limits c.args.limits.now) w c.args.form in
     let out = output_of (g.O.ByteSink.written c.args.out) (g.O.ByteSink.written c.ask.result.1) (g.O.ByteSink.has_failed c.ask.result.1) in
     let lines = map named_line_in c.in-Ok.lines.items in
     run_then (named_of gives w.baseline) (with_lines w rs) P c.args.inputs c.read_baseline.new.inputs out (seen_end c.ask.result.0)
     (seen_named c.read_baseline.result) lines (ap seen_named c.in-Ok.is) c.read_baseline.ensures
-    (run_here _ P c.read_baseline.new.inputs out (seen_end c.ask.result.0) (rw (c.rule_name-name.ensures, c.deref.ensures.value) at (c.ask.ensures Content not)))
+    (run_here _ P c.read_baseline.new.inputs out (seen_end c.ask.result.0) (rw (c.ruled_command-command.ensures, c.rule_name-name.ensures, c.deref.ensures.value) at (c.ask.ensures Content not)))
 
 pub returns-in-Err : goal.returns-in-Err
 returns-in-Err g c not =

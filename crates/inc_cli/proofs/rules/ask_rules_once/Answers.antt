@@ -13,7 +13,7 @@ pub returns-in-Ok : goal.returns-in-Ok
 returns-in-Ok g c not =
     let gives = g.I.Inputs.gives in
     let w = seen_rules c.args.words.now in
-    let P = IsRuledBy gives (record { opens = g.I.Inputs.opens; left = g.I.Stream.ByteSource.left }) c.args.setup.now.language (seen_question c.args.question.now) (seen_limits c.args.limits.now) (rule_name w) c.args.format in
+    let P = IsRuledBy gives g.I.Inputs.puts (record { opens = g.I.Inputs.opens; left = g.I.Stream.ByteSource.left }) c.args.setup.now.language (seen_question c.args.question.now) (seen_limits c.args.limits.now) w c.args.form in
     let out = output_of (g.O.ByteSink.written c.args.out) (g.O.ByteSink.written c.ask_rules_of.result.1) (g.O.ByteSink.has_failed c.ask_rules_of.result.1) in
     let read : seen_text c.read_rule_text.result ≡ Ok c.in-Ok.text.items = ap seen_text c.in-Ok.is in
     run_then (rule_text gives w) (λ text. rules_by gives w text) P c.args.inputs c.read_rule_text.new.inputs out (seen_end c.ask_rules_of.result.0)

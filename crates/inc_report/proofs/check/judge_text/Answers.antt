@@ -1,6 +1,6 @@
 use Rattle.std.proofs.Common.{ℕ, refl, ap, inl, inr, subst, ◌∙◌}
 use Rattle.inc_report.specs.CheckText.{verdict_printed}
-use Rattle.inc_report.specs.MissingNotes.{empty_notes}
+use Rattle.inc_report.specs.AnswerNotes.{empty_notes}
 use Rattle.inc_report.specs.Printed.{end_of}
 use Rattle.inc_report.specs.Refusals.{Malformed, refusal}
 use Rattle.inc_report.specs.Writing.{SendsWhole}
@@ -10,9 +10,9 @@ use Rattle.inc_report.proofs.check.judge_text.Goals as goal
 
 pub returns-in-Ok-clause-sent : goal.returns-in-Ok-clause-sent
 returns-in-Ok-clause-sent g c =
-    prints_one _ (verdict_printed (empty_notes c.args.project.now c.args.graph.now.missing) c.in-Ok.verdict) _ _ _
+    prints_one _ (verdict_printed (empty_notes c.args.project.now c.args.graph.now) c.in-Ok.verdict) _ _ _
     (bytes_all _ _ _ (λ text told. inr (told.0, c.in-Ok.verdict, told.1, told.2, refl)) c.in-Ok.ensures.verdict)
-    (record { ends = c.noted.ensures ∙ ap (λ n. end_of n c.kind_of-kind.result) c.in_ok-notes.ensures ∙ ap (end_of (empty_notes c.args.project.now c.args.graph.now.missing)) c.kind_of-kind.ensures; sent = c.send_verdict.ensures })
+    (record { ends = c.noted.ensures ∙ ap (λ n. end_of n c.kind_of-kind.result) c.in_ok-notes.ensures ∙ ap (end_of (empty_notes c.args.project.now c.args.graph.now)) c.kind_of-kind.ensures; sent = c.send_verdict.ensures })
 
 pub returns-in-Err-Malformed-clause-sent : goal.returns-in-Err-Malformed-clause-sent
 returns-in-Err-Malformed-clause-sent g c =

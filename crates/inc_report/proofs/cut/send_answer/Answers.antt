@@ -2,7 +2,7 @@ use Rattle.std.proofs.Common.{refl, ap, inl, inr, ◌∙◌}
 use Rattle.inc_check.specs.Certificates.{certificate_of}
 use Rattle.inc_check.specs.Texts.{certificate_text}
 use Rattle.inc_report.specs.Fitting.{IsFit}
-use Rattle.inc_report.specs.MissingNotes.{empty_notes}
+use Rattle.inc_report.specs.AnswerNotes.{empty_notes}
 use Rattle.inc_report.specs.Printed.{answered_of, end_of}
 use Rattle.inc_report.specs.declared.outcome.EndKind.TheVariants.{Answered}
 use Rattle.inc_report.proofs.CutLemmas.{counted_within}
@@ -23,7 +23,7 @@ returns-in-Cut g c =
     let small = rw c.deref.ensures.value at c.send_cut.ensures.small in
     let few = rw c.in-Cut.is at c.requires.few in
     let fits : IsFit c.args.project.now c.args.graph.now c.in-Cut.edges.items c.in-Cut.chains = record { marks = small; counted = c.send_cut.ensures.fit; few = few } in (
-      answered_of (empty_notes c.args.project.now c.args.graph.now.missing)
+      answered_of (empty_notes c.args.project.now c.args.graph.now)
           (certificate_text (certificate_of c.args.project.now c.args.graph.now c.in-Cut.edges.items c.in-Cut.chains)),
       inl (c.in-Cut.edges.items, c.in-Cut.chains, answer, fits, refl),
       record { ends = c.noted.ensures ∙ ap (λ n. end_of n Answered) c.requires.notes; sent = sent },

@@ -3,7 +3,7 @@ use Rattle.std.specs.Prelude.{codes}
 use Rattle.inc_graph.proofs.Walks.{chain-within}
 use Rattle.inc_check.specs.Certificates.{marks_of}
 use Rattle.inc_report.specs.MarkTexts.{list_text}
-use Rattle.inc_report.specs.MissingNotes.{empty_notes}
+use Rattle.inc_report.specs.AnswerNotes.{empty_notes}
 use Rattle.inc_report.specs.Printed.{negative_of, end_of}
 use Rattle.inc_report.specs.declared.outcome.EndKind.TheVariants.{Negative}
 use Rattle.inc_report.proofs.cut.send_fixed.Goals as goal
@@ -15,7 +15,7 @@ send_list-requires-clause-edges g c =
 pub returns : goal.returns
 returns g c =
     let sent = rw c.as_slice.ensures at c.send_list.ensures.sent in (
-      negative_of (empty_notes c.args.project.now c.args.graph.now.missing) (list_text (codes "fixed") (marks_of c.args.project.now c.args.graph.now c.args.chain.now.edges)),
+      negative_of (empty_notes c.args.project.now c.args.graph.now) (list_text (codes "fixed") (marks_of c.args.project.now c.args.graph.now c.args.chain.now.edges)),
       (c.args.chain.now.edges, c.requires.chain, refl),
       record { ends = c.noted.ensures ∙ ap (λ n. end_of n Negative) c.requires.notes; sent = sent },
     )

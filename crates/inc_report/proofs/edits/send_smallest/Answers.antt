@@ -7,7 +7,7 @@ use Rattle.inc_check.proofs.AcceptedCuts.{all_editable-within}
 use Rattle.inc_report.specs.ChangeForms.{text_in}
 use Rattle.inc_report.specs.Changes.{Change, changes}
 use Rattle.inc_report.specs.KeptFiles.{kept_at}
-use Rattle.inc_report.specs.MissingNotes.{empty_notes}
+use Rattle.inc_report.specs.AnswerNotes.{empty_notes}
 use Rattle.inc_report.specs.Printed.{answered_of, end_of}
 use Rattle.inc_report.specs.declared.outcome.EndKind.TheVariants.{Answered}
 use Rattle.inc_report.proofs.CutDirectives.{directives_all, cut_rises}
@@ -46,11 +46,11 @@ returns-in-Cut-clause-sent g c =
     c.deref-in-Cut.ensures.value ∙ c.in_ok-directives-in-Cut.ensures ∙ ap (directives_of graph) c.deref.ensures.value in
     record {
       text = (
-        answered_of (empty_notes c.args.project.now graph.missing) (text_in c.args.form c.deref-in-Cut-2.result.now),
+        answered_of (empty_notes c.args.project.now graph) (text_in c.args.form c.deref-in-Cut-2.result.now),
         λ listing laid fits. inl (
           c.in-Cut.edges.items,
           answer.nearest,
-          ap (λ (cs : List Change). answered_of (empty_notes c.args.project.now graph.missing) (text_in c.args.form cs))
+          ap (λ (cs : List Change). answered_of (empty_notes c.args.project.now graph) (text_in c.args.form cs))
               (c.deref-in-Cut-2.ensures.value ∙ c.in_ok-changes-in-Cut.ensures listing laid fits ∙ ap (changes c.args.language listing) same),
         ),
         record { ends = c.noted.ensures ∙ ap (λ n. end_of n Answered) c.in_ok-notes.ensures; sent = c.send_changes.ensures },

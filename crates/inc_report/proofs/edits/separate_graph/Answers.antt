@@ -21,6 +21,6 @@ returns-in-Err-clause-sent g c =
     let l = c.args.limits.now in
     prints_all _ _ _ _ c.refuse_hindrance.result
     (λ p is. λ listing laid fits.
-    unhindered_all layout graph.blockers (marks_refusal layout graph l.fixed l.costs) (λ q. ⊥) (AreChangesOf (text_in c.args.form) c.args.language listing layout graph (amounts_by layout graph l.kept l.fixed l.costs)) p
+    unhindered_all layout graph.definitions graph.blockers (marks_refusal layout graph l.fixed l.costs) (λ q. ⊥) (AreChangesOf (text_in c.args.form) c.args.language listing layout graph (amounts_by layout graph l.kept l.fixed l.costs)) p
     (λ none. absurd none) is)
     c.refuse_hindrance.ensures.sent

@@ -1,10 +1,10 @@
 use Rattle.std.proofs.Common.{length, subst}
 use Rattle.inc_report.specs.FileSizes.{kept_sizes}
 use Rattle.inc_report.specs.JsonAnswers.{about_subject}
-use Rattle.inc_report.specs.NamedText.{IsRuleReport, IsCostReport}
+use Rattle.inc_report.specs.NamedText.{AreTreesReported, IsRuleReport, IsCostReport}
 use Rattle.inc_report.specs.Terms.{Details, is_whole}
 use Rattle.inc_report.specs.Told.{told_printed}
-use Rattle.inc_report.proofs.NamedLemmas.{cost_report, graph_report, rule_report, who_report, why_report}
+use Rattle.inc_report.proofs.NamedLemmas.{cost_report, graph_report, rule_report, tree_report, who_report, why_report}
 use Rattle.inc_report.proofs.WritingLemmas.{prints_one}
 use Rattle.inc_report.proofs.named.answer_graph.Goals as goal
 
@@ -31,3 +31,8 @@ returns-in_ok-tell_costs-in-Cost-clause-sent g c =
     prints_one _ _ _ _ _ (cost_report c.args.form c.args.question.now c.args.details.now s c.requires.kept _ c.in-Cost.is c.requires.files c.requires.sound
     (subst (λ (d : Details). IsCostReport c.args.form d.costs (kept_sizes s.files.now (length s.project.now.paths)) (about_subject s) (told_printed c.in_ok-tell_costs-in-Cost.field-0)) c.details.view_is
     c.in_ok-tell_costs-in-Cost.ensures)) c.send-in-Cost.ensures
+
+pub returns-in_ok-tell_trees-in-Tree-clause-sent : goal.returns-in_ok-tell_trees-in-Tree-clause-sent
+returns-in_ok-tell_trees-in-Tree-clause-sent g c =
+    let s = c.args.subject in
+    prints_one _ _ _ _ _ (tree_report c.args.form c.args.question.now c.args.details.now s c.requires.kept _ c.in-Tree.is c.requires.files c.requires.sound c.in_ok-tell_trees-in-Tree.ensures) c.send-in-Tree.ensures

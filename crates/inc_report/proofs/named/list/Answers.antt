@@ -6,4 +6,4 @@ use Rattle.inc_report.proofs.NamedLemmas.{printed_as}
 use Rattle.inc_report.proofs.named.list.Goals as goal
 
 pub returns : goal.returns
-returns c = λ whole. (Edges, tt, ap₂ (λ (text notes : List ℕ). printed_as text (end_of notes Answered)) c.in_ok-graph_text.ensures c.none.ensures)
+returns c = λ whole. (Edges, tt, ap₂ (λ (text notes : List ℕ). printed_as text (end_of notes Answered)) c.in_ok-graph_text.ensures c.in_ok-definition_notes.ensures)

@@ -1,4 +1,4 @@
-use Rattle.std.proofs.Common.{[], Some, None, refl, ap, subst, sym, ◌∙◌}
+use Rattle.std.proofs.Common.{ℕ, List, Some, None, refl, ap, ap₂, subst, sym, ◌∙◌}
 use Rattle.inc_graph.specs.Chains.{IsShortestOrNone, AreChainsByLast}
 use Rattle.inc_graph.specs.IncludeGraph.{Graph}
 use Rattle.inc_report.specs.Printed.{end_of}
@@ -18,7 +18,7 @@ returns-then-find_shortest-clause-sent g c =
       text = (
         why_printed (is_whole c.args.question.now) c.args.fails c.args.most c.args.project.now graph (Some chains.chain) chains.left,
         (Some chains.chain, chains.left, shortest, by_last, refl),
-        record { ends = c.plain.ensures ∙ ap (λ (k : EndKind). end_of [] k) c.reached_kind.ensures; sent = c.send_reached.ensures },
+        record { ends = c.noted.ensures ∙ ap₂ (λ (n : List ℕ) (k : EndKind). end_of n k) c.in_ok-notes.ensures c.reached_kind.ensures; sent = c.send_reached.ensures },
       );
       nothing = tt;
     }
@@ -33,7 +33,7 @@ returns-clause-sent g c =
       text = (
         why_printed (is_whole c.args.question.now) c.args.fails c.args.most c.args.project.now graph None chains.left,
         (None, chains.left, none, by_last, refl),
-        record { ends = c.noted.ensures ∙ ap (λ n. end_of n Answered) c.in_ok-notes.ensures; sent = c.send_unreached.ensures },
+        record { ends = c.noted-2.ensures ∙ ap (λ n. end_of n Answered) c.in_ok-notes-2.ensures; sent = c.send_unreached.ensures },
       );
       nothing = tt;
     }

@@ -13,8 +13,8 @@ edges_before-requires-clause-few c =
     let long = ap length c.edges-all.ensures.edges ∙ length-numbered_from 0 c.args.self.now.edges in
     omega (arith, long, c.edges-all.ensures.sound.sized)
 
-pub new-requires-5 : goal.new-requires-5
-new-requires-5 c =
+pub new-requires-6 : goal.new-requires-6
+new-requires-6 c =
     let p : Parts = record {
       files = c.files-files.result;
       sources = c.in_ok-sources.sources;
@@ -22,9 +22,10 @@ new-requires-5 c =
       edges = c.in_ok-edges.edges;
       missing = c.new-3.result;
       blockers = c.new-4.result;
+      definitions = c.new-5.result;
     } in
     let is = part_is c.args.self.now c.args.from.now c.args.to.now p c.edges-all.result.now c.files-files.ensures.files c.in_ok-sources.ensures c.in_ok-headers.ensures c.edges-all.ensures.edges c.in_ok-edges.ensures.edges c.new-3.ensures
-    c.new-4.ensures.items in
+    c.new-4.ensures.items c.new-5.ensures.items in
     are_parts_of c.args.self.now c.args.from.now c.args.to.now p (map seen_edge (kept_of c.in_ok-headers.headers c.edges-all.result.now)) c.edges-all.ensures.sound c.requires is c.in_ok-edges.ensures.edges
 
 pub returns-clause-graph : goal.returns-clause-graph
@@ -36,10 +37,11 @@ returns-clause-graph c =
       edges = c.in_ok-edges.edges;
       missing = c.new-3.result;
       blockers = c.new-4.result;
+      definitions = c.new-5.result;
     } in
     c.in_ok-graph.ensures
     ∙ part_is c.args.self.now c.args.from.now c.args.to.now p c.edges-all.result.now c.files-files.ensures.files c.in_ok-sources.ensures c.in_ok-headers.ensures c.edges-all.ensures.edges c.in_ok-edges.ensures.edges c.new-3.ensures
-    c.new-4.ensures.items
+    c.new-4.ensures.items c.new-5.ensures.items
 
 pub returns-clause-numbers : goal.returns-clause-numbers
 returns-clause-numbers c = c.in_ok-edges.ensures.numbers ∙ numbers_are c.args.self.now c.args.to.now c.in_ok-headers.headers c.edges-all.result.now c.edges-all.ensures.edges c.in_ok-headers.ensures

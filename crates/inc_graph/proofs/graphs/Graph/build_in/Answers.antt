@@ -33,14 +33,14 @@ add_states-requires-clause-files g c =
     let given = c.in_ok-states.ensures.states in
     length_states c.args.setting.now given.witness c.args.from.now c.args.to c.in_ok-states.states (given_one given).0 ∙ laid_count c.args.project.now given.witness given.laid_out
 
-pub new-requires-3 : goal.new-requires-3
-new-requires-3 g c =
+pub new-requires-4 : goal.new-requires-4
+new-requires-4 g c =
     let given = c.in_ok-states.ensures.states in
     let listing = given.witness in
     let count = laid_count c.args.project.now listing given.laid_out in
     let ss = c.in_ok-states.states in
     let states = (given_one given).0 in
-    let start = empty_parts c.count.result _ _ (source_files c.args.from.now) _ c.args.to c.in_ok-with_capacity.field-0.items c.new.result c.new-2.result.items (c.count.ensures.count ∙ sym count) (c.starts.view_is ∙ c.requires.starts) c.to.view_is c.in_ok-with_capacity.ensures.items c.new.ensures c.new-2.ensures.items in
+    let start = empty_parts c.count.result _ _ (source_files c.args.from.now) _ c.args.to c.in_ok-with_capacity.field-0.items c.new.result c.new-2.result.items c.new-3.result.items (c.count.ensures.count ∙ sym count) (c.starts.view_is ∙ c.requires.starts) c.to.view_is c.in_ok-with_capacity.ensures.items c.new.ensures c.new-2.ensures.items c.new-3.ensures.items in
     let sized : nat_lt most_directives (total ss) ≡ false =
     few_counted (total ss) c.in-Some-count_directives.count
     (sym c.count_directives.ensures ∙ c.in-Some-count_directives.is) in
@@ -61,8 +61,8 @@ returns-clause-graph g c =
     let flags : (name : ℕ) → flag_at c.deref.result.now name ≡ (nat_lt name c.undefined_count.result && list_any (state_defines name) ss) =
     subst (λ bs. (name : ℕ) → flag_at bs name ≡ (nat_lt name c.undefined_count.result && list_any (state_defines name) ss)) (sym c.deref.ensures.value) c.in_ok-defined.ensures in
     given_all c.in_ok-states.ensures.states (λ given listing laid both.
-    let start = empty_parts c.count.result _ _ (source_files c.args.from.now) _ c.args.to c.in_ok-with_capacity.field-0.items c.new.result c.new-2.result.items
-    (c.count.ensures.count ∙ sym (laid_count c.args.project.now listing laid)) (c.starts.view_is ∙ c.requires.starts) c.to.view_is c.in_ok-with_capacity.ensures.items c.new.ensures c.new-2.ensures.items in (
+    let start = empty_parts c.count.result _ _ (source_files c.args.from.now) _ c.args.to c.in_ok-with_capacity.field-0.items c.new.result c.new-2.result.items c.new-3.result.items
+    (c.count.ensures.count ∙ sym (laid_count c.args.project.now listing laid)) (c.starts.view_is ∙ c.requires.starts) c.to.view_is c.in_ok-with_capacity.ensures.items c.new.ensures c.new-2.ensures.items c.new-3.ensures.items in (
       whole_answer c.args.setting.now listing c.args.from.now c.args.to ss c.in_ok-new.field-0 both.0 none sized (flag_at c.deref.result.now) c.undefined_count.result c.undefined_count.ensures flags
           (c.in_ok-new.ensures ∙ c.in_ok-add_states.ensures.lists ∙ ap (λ (g : Graph). with_states (flag_at c.deref.result.now) g 0 ss) start),
       both.1,

@@ -1,0 +1,11 @@
+use Rattle.std.proofs.Common.{◌≡◌, ◌+◌, List, length, ◌∙◌, ap, arith, rules}
+use Rattle.inc_graph.specs.declared.graphs.Edge as declared
+use Rattle.inc_graph.proofs.NumberedEdges.{length-numbered_from}
+use Rattle.inc_cost.proofs.trees.TreeWalk.new.Goals as goal
+
+pub returns : goal.returns
+returns c =
+    let flags : length c.in_ok-flags.flags.items ≡ c.files.result = search rules in
+    let room : length c.in_ok-waiting.waiting.items ≡ length c.edges.result.now + 1 = search rules in
+    let edges : length c.edges.result.now ≡ length c.args.graph.now.edges = ap (λ (es : List declared.Edge). length es) c.edges.ensures.edges ∙ length-numbered_from 0 c.args.graph.now.edges in
+    record { files = flags ∙ c.files.ensures.files; room = omega arith }
