@@ -25,7 +25,7 @@ _incut() {
         who) options+=" -p --files --root --exclude --follow --null -0 -I --iquote --isystem --idirafter --without --drop --strict --external --quiet -q --fail-if-reached --undefined --from --to --chains --format --max" ;;
         cut) options+=" -p --files --root --exclude --follow --null -0 -I --iquote --isystem --idirafter --without --drop --strict --external --undefined --from --to --fixed --keep --only --costs --quiet -q --blank --patch --format --all --max" ;;
         check) options+=" -p --files --root --exclude --follow --null -0 -I --iquote --isystem --idirafter --without --drop --strict --external --undefined --from --to --fixed --keep --only --costs --quiet -q" ;;
-        pp) options+=" -p --files --root --exclude --follow --null -0 -I --iquote --isystem --idirafter --without -D --defines --compiler --missing-empty --lines --most-read --most-output --deps --status" ;;
+        pp) options+=" -p --files --root --exclude --follow --null -0 -I --iquote --isystem --idirafter --without --quiet -q -D --defines --compiler --missing-empty --lines --most-read --most-output --deps --status" ;;
     esac
     mapfile -t COMPREPLY < <(compgen -W "$options" -- "$cur")
     case $command:$cur in

@@ -307,7 +307,7 @@ abbrev pub check : App
 check = command (codes "check") (extended ∷ gnu ∷ file_rules ++ drop_rules ++ strict_rules ++ note_rules ++ limit_rules ++ certificate ∷ end_rules)
 
 abbrev pub pp : App
-pp = command (codes "pp") (extended ∷ gnu ∷ file_rules ++ macro_rules ++ bound_rules ++ output_rules ++ sources ∷ [])
+pp = command (codes "pp") (extended ∷ gnu ∷ file_rules ++ note_rules ++ macro_rules ++ bound_rules ++ output_rules ++ sources ∷ [])
 
 -- the program before its commands; it prints its version
 abbrev pub program : App

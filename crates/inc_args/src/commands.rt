@@ -48,7 +48,7 @@ fn with_list<'a>(alloc: Global, command: Command<'a>) -> Result<Command<'a>, All
 {
     let root = "Take the C files below DIR, without --files (repeatable) [default: .]";
     let exclude = "Leave out the files that GLOB fits (repeatable)";
-    let follow = "Follow links on the way to a file of LIST";
+    let follow = "Follow links, on the way to a file of LIST and below DIR";
     let build = "Take files and include path from BUILD, a compile_commands.json or its folder";
     command
         .arg(single(alloc, 'p', "build", "BUILD", build))?
@@ -387,7 +387,8 @@ fn pp<'a>(alloc: Global) -> Result<Command<'a>, AllocError>
     ensures { IfOk result (λ c. app_of c ≡ line.pp) }
 {
     let command = started(alloc, "pp", "Preprocess sources", PP_NOTES)?;
-    let command = with_macros(alloc, with_files(alloc, command)?)?;
+    let command = with_notes(alloc, with_files(alloc, command)?)?;
+    let command = with_macros(alloc, command)?;
     let command = with_bounds(alloc, command)?;
     with_outputs(alloc, command)?.arg(sources(alloc))
 }

@@ -3,8 +3,8 @@ use Rattle.std.proofs.Common.{◌≡◌, ◌∙◌, ℕ, List, [], ◌∷◌, Re
 use Rattle.inc_text.specs.declared.devices.ReadFault.{ReadFault}
 use Rattle.inc_lookup.specs.Given.{FailsAfter, Gave, Given, HoldsOfGiven}
 use Rattle.inc_lookup.specs.Projects.{Layout, Listing}
-use Rattle.inc_report.specs.Questions.{FailsAt}
-use Rattle.inc_report.specs.Terms.{Question}
+use Rattle.inc_answers.specs.Questions.{FailsAt}
+use Rattle.inc_answers.specs.Terms.{Question}
 use Rattle.inc_inputs.specs.Inputs.{Gives, listed}
 
 -- each reading is one of the file at its place of the list, which stays

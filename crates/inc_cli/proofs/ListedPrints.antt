@@ -3,13 +3,13 @@ use Rattle.std.proofs.Common.{ℕ, Bool, List, Option, Some, None, Result, Ok, E
 use Rattle.inc_text.specs.declared.devices.ReadFault.{ReadFault}
 use Rattle.inc_lookup.specs.Projects.{Layout}
 use Rattle.inc_check.specs.Texts.{OfBytes}
-use Rattle.inc_report.specs.Printed.{Printed}
-use Rattle.inc_report.specs.Questions.{FailsAt}
-use Rattle.inc_report.specs.Terms.{Question}
-use Rattle.inc_report.specs.Writing.{Writes, WritesEach, unread_of}
-use Rattle.inc_report.specs.declared.outcome.End.{End}
-use Rattle.inc_report.specs.declared.outcome.RunFault.{RunFault}
-use Rattle.inc_report.proofs.WritingLemmas.{writes_all}
+use Rattle.inc_answers.specs.Printed.{Printed}
+use Rattle.inc_answers.specs.Questions.{FailsAt}
+use Rattle.inc_answers.specs.Terms.{Question}
+use Rattle.inc_answers.specs.Writing.{Writes, WritesEach, unread_of}
+use Rattle.inc_answers.specs.declared.outcome.End.{End}
+use Rattle.inc_answers.specs.declared.outcome.RunFault.{RunFault}
+use Rattle.inc_answers.proofs.WritingLemmas.{writes_all}
 use Rattle.inc_inputs.specs.Inputs.{Gives, listed}
 use Rattle.inc_cli.specs.Outputs.{Output}
 use Rattle.inc_cli.specs.Questions.{Prints}

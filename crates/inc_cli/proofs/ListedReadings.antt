@@ -3,12 +3,12 @@ use Rattle.std.proofs.Common.{◌≡◌, ℕ, List, Result, Bor, ap, map}
 use Rattle.inc_text.specs.declared.devices.ReadFault.{ReadFault}
 use Rattle.inc_lookup.specs.Given.{FailsAfter, Given, HoldsOfGiven}
 use Rattle.inc_lookup.specs.Projects.{Layout, Listing}
-use Rattle.inc_report.specs.Printed.{Printed}
-use Rattle.inc_report.specs.Questions.{FailsAt}
-use Rattle.inc_report.specs.Terms.{Question}
-use Rattle.inc_report.specs.Writing.{Writes, unread_of}
-use Rattle.inc_report.specs.declared.outcome.End.{End}
-use Rattle.inc_report.specs.declared.outcome.RunFault.{RunFault}
+use Rattle.inc_answers.specs.Printed.{Printed}
+use Rattle.inc_answers.specs.Questions.{FailsAt}
+use Rattle.inc_answers.specs.Terms.{Question}
+use Rattle.inc_answers.specs.Writing.{Writes, unread_of}
+use Rattle.inc_answers.specs.declared.outcome.End.{End}
+use Rattle.inc_answers.specs.declared.outcome.RunFault.{RunFault}
 use Rattle.std.specs.Prelude.{IfErr, IfSome}
 use Rattle.inc_inputs.specs.Inputs.{Gives, listed}
 use Rattle.inc_cli.specs.Outputs.{Output}

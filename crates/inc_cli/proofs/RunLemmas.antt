@@ -7,6 +7,7 @@ use Rattle.inc_cli.specs.Outputs.{Answer, Following, Follows, IsRun, Output}
 use Rattle.inc_cli.specs.Processes.{IsTold, IsToldRun}
 use Rattle.inc_cli.specs.declared.runs.Ended.TheVariants.{Status}
 use Rattle.inc_inputs.specs.Reports.{Report, out_of_memory}
+use Rattle.inc_inputs.specs.declared.failures.Hindrance.{Hindrance}
 use Rattle.inc_inputs.specs.Texts.{unless, unless_reported}
 use Rattle.inc_inputs.specs.Steps.{Comes, Step, comes_to, judged, next_of, then}
 
@@ -94,12 +95,12 @@ pub run_here : {S A : Type 0} (a : A) (P : Following S A) (old : S) (out : Outpu
 run_here a P old out answer p = record { asked = Ok a; mid = old; reads = (refl, refl); follows = p }
 
 -- a run whose end is told keeps what is said of its answer, unless memory ran out
-pub told_run : (P : Meaning → Result Answer Report → Type 0) (a b : Meaning) (messages : Output) (answer : Result Answer Report) (status : ℕ) → a ≡ b
-    → IsTold a.is_quiet answer status messages → (answer ≢ Err out_of_memory → P a answer) → IsToldRun b.is_quiet (P b) messages (Status status)
-told_run P a b messages (Ok x) status same told kept =
-    λ other. (Ok x, subst (λ (m : Meaning). IsTold m.is_quiet (Ok x) status messages) same told, subst (λ m. P m (Ok x)) same (kept (λ is. cc)))
-told_run P a b messages (Err r) status same told kept =
-    λ other. (Err r, told, subst (λ m. P m (Err r)) same (kept (λ is. other (told.0 ∙ ap status_in is))))
+pub told_run : (P : Meaning → Result Answer Report → Type 0) (a b : Meaning) (messages : Output) (h : Hindrance) (answer : Result Answer Report) (status : ℕ) → a ≡ b
+    → IsTold a.is_quiet h answer status messages → (answer ≢ Err out_of_memory → P a answer) → IsToldRun b.is_quiet (P b) messages (Status status)
+told_run P a b messages h (Ok x) status same told kept =
+    λ other. (Ok x, h, subst (λ (m : Meaning). IsTold m.is_quiet h (Ok x) status messages) same told, subst (λ m. P m (Ok x)) same (kept (λ is. cc)))
+told_run P a b messages h (Err r) status same told kept =
+    λ other. (Err r, h, told, subst (λ m. P m (Err r)) same (kept (λ is. other (told.0 ∙ ap status_in is))))
   where
     status_in : Result Answer Report → ℕ
     status_in (Ok e) = 0

@@ -4,10 +4,10 @@ use Rattle.inc_inputs.specs.Inputs.{Puts}
 use Rattle.inc_inputs.specs.Reports.{Report, out_of_memory}
 use Rattle.inc_inputs.specs.Steps.{Step, comes_to, then}
 use Rattle.inc_inputs.specs.WrittenBaselines.{writes_baseline}
-use Rattle.inc_report.specs.declared.asked.RuleList.{RuleList}
+use Rattle.inc_answers.specs.declared.asked.RuleList.{RuleList}
 use Rattle.inc_report.specs.declared.named.Format.{Format}
-use Rattle.inc_report.specs.declared.outcome.EndKind.{EndKind}
-use Rattle.inc_report.specs.declared.outcome.EndKind.TheVariants.{Answered, Negative, Refused}
+use Rattle.inc_answers.specs.declared.outcome.EndKind.{EndKind}
+use Rattle.inc_answers.specs.declared.outcome.EndKind.TheVariants.{Answered, Negative, Refused}
 use Rattle.inc_cli.specs.Outputs.{Answer}
 use Rattle.inc_cli.specs.Questions.{with_note, writes_by, writes_for, writes_told}
 use Rattle.inc_cli.specs.Views.{seen_command}

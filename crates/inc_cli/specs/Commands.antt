@@ -1,10 +1,10 @@
 -- The commands that ask about sources and headers.
 use Rattle.std.specs.Prelude.{ℕ, Bool, true, false, List, Option, Some, None, if◌then◌else◌, option_map}
 use Rattle.inc_cost.specs.Costs.{Group}
-use Rattle.inc_report.specs.NamedText.{asks_headers}
-use Rattle.inc_report.specs.Terms.{Details, Limits, RuleList, no_rules}
-use Rattle.inc_report.specs.declared.named.Asked.{Asked}
-use Rattle.inc_report.specs.declared.named.Asked.TheVariants as asked
+use Rattle.inc_answers.specs.CommandNames.{asks_headers}
+use Rattle.inc_answers.specs.Terms.{Details, Limits, RuleList, no_rules}
+use Rattle.inc_answers.specs.declared.asked.Asked.{Asked}
+use Rattle.inc_answers.specs.declared.asked.Asked.TheVariants as asked
 use Rattle.inc_report.specs.declared.named.Format.{Format}
 use Rattle.inc_report.specs.declared.named.NamedForm.{NamedForm}
 use Rattle.inc_inputs.specs.Baselines.{Baseline, no_baseline}

@@ -1,8 +1,8 @@
 -- Notes: lines on standard error beside an answer. They change neither the answer nor the status.
 use Rattle.std.specs.Prelude.{ℕ, Bool, List, [], ◌++◌, if◌then◌else◌}
-use Rattle.inc_report.specs.declared.outcome.End.{End}
-use Rattle.inc_report.specs.declared.outcome.EndKind.{EndKind}
-use Rattle.inc_report.specs.declared.outcome.EndKind.TheVariants.{Answered, Negative, Refused}
+use Rattle.inc_answers.specs.declared.outcome.End.{End}
+use Rattle.inc_answers.specs.declared.outcome.EndKind.{EndKind}
+use Rattle.inc_answers.specs.declared.outcome.EndKind.TheVariants.{Answered, Negative, Refused}
 use Rattle.inc_cli.specs.Outputs.{Answer}
 
 -- the notes beside an answer: those of the words, those of the headers that were not found, and why sources stopped

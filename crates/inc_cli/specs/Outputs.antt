@@ -1,12 +1,11 @@
 -- What a run prints once its lists are read, and how it ends.
 use Rattle.std.specs.Prelude.{◌≡◌, ℕ, Bool, List, [], Option, Result, Ok, Err, slice_index_or}
 use Rattle.std.specs.Io.KnownBytes.{Keeps}
-use Rattle.inc_report.specs.declared.outcome.End.{End}
-use Rattle.inc_report.specs.declared.outcome.RunFault.{RunFault}
-use Rattle.inc_report.specs.declared.outcome.RunFault.TheVariants as run
-use Rattle.inc_inputs.specs.Reports.{Report, cannot_read, cannot_read_for, cannot_write, file_too_long, out_of_memory, shown}
+use Rattle.inc_answers.specs.declared.outcome.End.{End}
+use Rattle.inc_answers.specs.declared.outcome.RunFault.{RunFault}
+use Rattle.inc_answers.specs.declared.outcome.RunFault.TheVariants as run
+use Rattle.inc_inputs.specs.Reports.{Report, cannot_read, cannot_write, file_too_long, out_of_memory, shown}
 use Rattle.inc_inputs.specs.Steps.{Step}
-use Rattle.inc_inputs.specs.declared.failures.Hindrance.{Hindrance}
 
 -- the output: what it held before and after, as far as that is known, and whether it has failed
 pub record Output : Type 0 where
@@ -14,14 +13,13 @@ pub record Output : Type 0 where
   pub after : Option (List ℕ)
   pub failed : Bool
 
--- what is reported of a call that prints, in a project whose files have these paths, with a certificate of this name, by what stood in the
--- way of a file
-abbrev pub run_report : RunFault → (written : List (List ℕ)) → (certificate : List ℕ) → Hindrance → Report
-run_report (run.CannotRead file) written certificate h = cannot_read_for h (shown (slice_index_or written file []))
-run_report (run.FileTooLong file) written certificate h = file_too_long (shown (slice_index_or written file []))
-run_report run.CannotReadCertificate written certificate h = cannot_read certificate
-run_report run.Write written certificate h = cannot_write
-run_report run.NoMemory written certificate h = out_of_memory
+-- what is reported of a call that prints, in a project whose files have these paths, with a certificate of this name
+abbrev pub run_report : RunFault → (written : List (List ℕ)) → (certificate : List ℕ) → Report
+run_report (run.CannotRead file) written certificate = cannot_read (shown (slice_index_or written file []))
+run_report (run.FileTooLong file) written certificate = file_too_long (shown (slice_index_or written file []))
+run_report run.CannotReadCertificate written certificate = cannot_read certificate
+run_report run.Write written certificate = cannot_write
+run_report run.NoMemory written certificate = out_of_memory
 
 -- how a run ended that was answered, and what is noted of its words
 pub record Answer : Type 0 where
@@ -29,9 +27,9 @@ pub record Answer : Type 0 where
   pub notes : List ℕ
 
 -- how a call that prints ended, with what was noted before it, or the report of its failure
-abbrev pub ended : (notes : List ℕ) → (paths : List (List ℕ)) → (certificate : List ℕ) → Hindrance → Result End RunFault → Result Answer Report
-ended notes paths certificate h (Ok end) = Ok (record { end = end; notes = notes })
-ended notes paths certificate h (Err fault) = Err (run_report fault paths certificate h)
+abbrev pub ended : (notes : List ℕ) → (paths : List (List ℕ)) → (certificate : List ℕ) → Result End RunFault → Result Answer Report
+ended notes paths certificate (Ok end) = Ok (record { end = end; notes = notes })
+ended notes paths certificate (Err fault) = Err (run_report fault paths certificate)
 
 -- what follows the reading of lists that came to a value: from a state of the inputs on, what is printed and how the run ends
 abbrev pub Following : Type 0 → Type 0 → Type 1

@@ -11,17 +11,17 @@ use Rattle.inc_pp.specs.Settings.{bounded_settings, found_in_settings, limited_s
 use Rattle.inc_pp.specs.declared.settings.Missing.{Missing}
 use Rattle.inc_pp.specs.declared.settings.Missing.TheVariants.{Empty, Stop}
 use Rattle.inc_report.specs.PpTexts.{IsNextPp, IsPpBy, wanted_of}
-use Rattle.inc_report.specs.Printed.{Printed}
-use Rattle.inc_report.specs.Terms.{PpQuestion, named_directives}
-use Rattle.inc_report.specs.Writing.{WritesEach, is_of_certificate, unread_of}
-use Rattle.inc_report.specs.declared.outcome.End.{End}
-use Rattle.inc_report.specs.declared.outcome.RunFault.{RunFault}
+use Rattle.inc_answers.specs.Printed.{Printed}
+use Rattle.inc_answers.specs.Terms.{named_directives}
+use Rattle.inc_report.specs.PpTerms.{PpQuestion}
+use Rattle.inc_answers.specs.Writing.{WritesEach, is_of_certificate, unread_of}
+use Rattle.inc_answers.specs.declared.outcome.End.{End}
+use Rattle.inc_answers.specs.declared.outcome.RunFault.{RunFault}
 use Rattle.inc_args.specs.Meaning.{Preprocessing}
 use Rattle.inc_inputs.specs.Defines.{described_dirs}
 use Rattle.inc_inputs.specs.IncludePath.{include_path}
 use Rattle.inc_inputs.specs.GlobWords.{exclude_report}
 use Rattle.inc_inputs.specs.Inputs.{Gives, Puts, listed}
-use Rattle.inc_inputs.specs.declared.failures.Hindrance.{Hindrance}
 use Rattle.inc_cli.specs.Outputs.{Answer, Following, Output, ended}
 use Rattle.inc_inputs.specs.ListNotes.{named_layout}
 use Rattle.inc_inputs.specs.PpTexts.{PpTexts, pp_texts, pp_texts_beside}
@@ -175,5 +175,5 @@ writes_beside puts p told = next_of (λ answer. then (writes_texts puts p answer
 -- sources were preprocessed, and what stands beside the answer was written
 abbrev pub IsPreprocessed : {S : Type 0} → Gives S → Puts S → Preprocessing → Following S PpAsked
 IsPreprocessed {S} gives puts p a old out answer =
-    (result : Result End RunFault) × (hindrance : Hindrance) × (mid new : S) × PrintsEach gives a old mid out result
-    × writes_beside puts p (ended a.notes a.paths [] hindrance result) mid answer new
+    (result : Result End RunFault) × (mid new : S) × PrintsEach gives a old mid out result
+    × writes_beside puts p (ended a.notes a.paths [] result) mid answer new

@@ -9,12 +9,12 @@ use Rattle.inc_args.specs.Meaning.{Meaning, meaning}
 use Rattle.inc_args.specs.Refusals.{refusals}
 use Rattle.inc_check.specs.Reading.{number_in}
 use Rattle.inc_inputs.specs.Inputs.{Begins, Gives, Puts}
-use Rattle.inc_report.specs.declared.named.Asked.{Asked}
-use Rattle.inc_report.specs.declared.named.Asked.TheVariants as asked
+use Rattle.inc_answers.specs.declared.asked.Asked.{Asked}
+use Rattle.inc_answers.specs.declared.asked.Asked.TheVariants as asked
 use Rattle.inc_report.specs.declared.named.Format.{Format}
 use Rattle.inc_report.specs.declared.named.Format.TheVariants.{Gcc, Json, Dot}
-use Rattle.inc_report.specs.declared.scan.ScanForm.{ScanForm}
-use Rattle.inc_report.specs.declared.scan.ScanForm.TheVariants as form
+use Rattle.inc_answers.specs.declared.scan.ScanForm.{ScanForm}
+use Rattle.inc_answers.specs.declared.scan.ScanForm.TheVariants as form
 use Rattle.inc_inputs.specs.RuleLists.{Ruled, rule_name, rules_given}
 use Rattle.inc_cli.specs.Commands.{Blank, Check, Command, Cost, Cut, Folded, Graph, Named, Patch, Tree, Who, Why, bounded, ruled_command}
 use Rattle.inc_cli.specs.Languages.{language_of}
@@ -23,6 +23,7 @@ use Rattle.inc_cli.specs.Outputs.{Answer, Following, Follows, IsRun, Output}
 use Rattle.inc_cli.specs.Preprocessings.{IsPreprocessed, pp_of}
 use Rattle.inc_cli.specs.Questions.{IsAsked, Known, Content, Promise, Opens}
 use Rattle.inc_inputs.specs.Ends.{are_ends, is_empty}
+use Rattle.inc_inputs.specs.declared.failures.Hindrance.{Hindrance}
 use Rattle.inc_inputs.specs.Reports.{Report, folded_alone, format_of_files, no_format, no_headers, no_most, no_scan_format, no_top, of_alone, report_line, two_forms}
 use Rattle.inc_cli.specs.Runs.{asked_of, no_limits}
 use Rattle.inc_cli.specs.Scans.{IsScan}
@@ -206,16 +207,16 @@ abbrev pub status_after : Result Answer Report → ℕ
 status_after (Ok a) = status_of a.end.kind
 status_after (Err r) = r.status
 
--- the notes beside an answer, or the line that reports a failure
-abbrev pub told : (quiet : Bool) → Result Answer Report → List ℕ
-told quiet (Ok a) = notes_if quiet a
-told quiet (Err r) = report_line r
+-- the notes beside an answer, or the line that reports a failure, with what stood in the way of what is read or written
+abbrev pub told : (quiet : Bool) → Hindrance → Result Answer Report → List ℕ
+told quiet h (Ok a) = notes_if quiet a
+told quiet h (Err r) = report_line h r
 
 -- the status, and what is written to the messages, as far as they take it
-abbrev pub IsTold : (quiet : Bool) → Result Answer Report → (status : ℕ) → (messages : Output) → Type 0
-IsTold quiet answer status messages =
-    (status ≡ status_after answer) × AppendsFront messages.before messages.after (told quiet answer)
-    × (messages.failed ≡ false → Appends messages.before messages.after (told quiet answer))
+abbrev pub IsTold : (quiet : Bool) → Hindrance → Result Answer Report → (status : ℕ) → (messages : Output) → Type 0
+IsTold quiet h answer status messages =
+    (status ≡ status_after answer) × AppendsFront messages.before messages.after (told quiet h answer)
+    × (messages.failed ≡ false → Appends messages.before messages.after (told quiet h answer))
 
 -- words that are refused: nothing is written yet, so that `clap` can write its text
 abbrev pub IsRefusedRun : (words : List (List ℕ)) → (out messages : Output) → Ended → Type 0
@@ -223,10 +224,10 @@ IsRefusedRun words out messages (Usage error) =
     IsAmong (kind_of error) (refusals words) × Keeps out.before out.after × Keeps messages.before messages.after × (messages.failed ≡ false)
 IsRefusedRun words out messages (Status n) = n ≢ 5 → refusals words ≡ []
 
--- words that are taken: P of the answer, as it is told. Status 5 says that memory ran out
+-- words that are taken: P of the answer, as it is told; of what stands in the way of a file the inputs tell. Status 5 says that memory ran out
 abbrev pub IsToldRun : (quiet : Bool) → (P : Result Answer Report → Type 0) → (messages : Output) → Ended → Type 0
 IsToldRun quiet P messages (Usage error) = Unit {0}
-IsToldRun quiet P messages (Status n) = n ≢ 5 → (answer : Result Answer Report) × IsTold quiet answer n messages × P answer
+IsToldRun quiet P messages (Status n) = n ≢ 5 → (answer : Result Answer Report) × (h : Hindrance) × IsTold quiet h answer n messages × P answer
 
 -- what the words ask for is answered, once it is set whether links are followed
 abbrev pub IsAnswerFrom : {S T : Type 0} → Gives S → Puts S → Opens S T → (is_terminal : Bool) → Meaning → (old : S) → Output → Result Answer Report → Type 0

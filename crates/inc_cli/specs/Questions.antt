@@ -6,30 +6,29 @@ use Rattle.inc_lookup.specs.Projects.{Listing}
 use Rattle.inc_check.specs.Texts.{OfBytes}
 use Rattle.inc_report.specs.BaselineText.{IsBaselineBy}
 use Rattle.inc_report.specs.BlankHeadline.{BlankHeadline, PatchHeadline}
-use Rattle.inc_report.specs.BlankText.{IsBlankBy, IsPatchBy}
+use Rattle.inc_answers.specs.BlankText.{IsBlankBy, IsPatchBy}
 use Rattle.inc_report.specs.CheckText.{IsCheckBy}
-use Rattle.inc_report.specs.CostText.{IsCostBy}
-use Rattle.inc_report.specs.CutText.{IsCutBy}
-use Rattle.inc_report.specs.GraphText.{IsGraphBy}
+use Rattle.inc_answers.specs.CostText.{IsCostBy}
+use Rattle.inc_answers.specs.CutText.{IsCutBy}
+use Rattle.inc_answers.specs.GraphText.{IsGraphBy}
 use Rattle.inc_report.specs.Headline.{CheckHeadline, CutHeadline}
 use Rattle.inc_report.specs.NamedHeadline.{NamedHeadline}
 use Rattle.inc_report.specs.NamedText.{IsNamedBy}
-use Rattle.inc_report.specs.Printed.{Printed}
-use Rattle.inc_report.specs.Questions.{FailsAt}
+use Rattle.inc_answers.specs.Printed.{Printed}
+use Rattle.inc_answers.specs.Questions.{FailsAt}
 use Rattle.inc_report.specs.RulesSarif.{IsSarifBy}
 use Rattle.inc_report.specs.RulesText.{IsRulesBy}
-use Rattle.inc_report.specs.TreeText.{AreTreesBy}
-use Rattle.inc_report.specs.WhoText.{IsWhoBy}
-use Rattle.inc_report.specs.WhyText.{IsWhyBy}
-use Rattle.inc_report.specs.Writing.{Writes, is_of_certificate, unread_of}
-use Rattle.inc_report.specs.declared.outcome.End.{End}
-use Rattle.inc_report.specs.declared.outcome.EndKind.{EndKind}
-use Rattle.inc_report.specs.declared.outcome.EndKind.TheVariants.{Refused}
-use Rattle.inc_report.specs.declared.outcome.RunFault.{RunFault}
+use Rattle.inc_answers.specs.TreeText.{AreTreesBy}
+use Rattle.inc_answers.specs.WhoText.{IsWhoBy}
+use Rattle.inc_answers.specs.WhyText.{IsWhyBy}
+use Rattle.inc_answers.specs.Writing.{Writes, is_of_certificate, unread_of}
+use Rattle.inc_answers.specs.declared.outcome.End.{End}
+use Rattle.inc_answers.specs.declared.outcome.EndKind.{EndKind}
+use Rattle.inc_answers.specs.declared.outcome.EndKind.TheVariants.{Refused}
+use Rattle.inc_answers.specs.declared.outcome.RunFault.{RunFault}
 use Rattle.inc_report.specs.declared.named.NamedForm.{NamedForm}
-use Rattle.inc_report.specs.declared.trees.TreeForm.TheVariants as trees
+use Rattle.inc_answers.specs.declared.trees.TreeForm.TheVariants as trees
 use Rattle.inc_inputs.specs.Inputs.{Gives, Puts, listed}
-use Rattle.inc_inputs.specs.declared.failures.Hindrance.{Hindrance}
 use Rattle.inc_inputs.specs.Reports.{Report}
 use Rattle.inc_inputs.specs.Steps.{Step, comes_to, next_of, then}
 use Rattle.inc_inputs.specs.WrittenBaselines.{writes_baseline}
@@ -136,15 +135,13 @@ writes_for puts command told = comes_to told
 pub record IsAnswered {S : Type 0} (gives : Gives S) (puts : Puts S) (P : Asked → (old new : S) → Printed → Type 0) (command : Command) (a : Asked) (old : S)
     (out : Output) (answer : Result Answer Report) : Type 0 where
   pub result : Result End RunFault
-  -- what stood in the way of a file, as the inputs told it
-  pub hindrance : Hindrance
   -- the state of the inputs in the end
   pub last : S
   -- no certificate fails where none is named
   pub certificate : certificate_of command ≡ None → IfErr result (λ fault. is_of_certificate fault ≡ false)
   pub prints : Prints (P a old) (λ new. FailsAt (listed gives a.paths) old new a.layout a.question) out result
   -- with what is noted of a build and of the words for headers, once what is asked for is written
-  pub is : writes_for puts command (ended a.notes a.paths (unwrap_or (certificate_of command) []) hindrance result) prints.new answer last
+  pub is : writes_for puts command (ended a.notes a.paths (unwrap_or (certificate_of command) []) result) prints.new answer last
 
 -- a question is asked with a command, by what its words and texts come to
 abbrev pub IsAsked : {S T : Type 0} → Gives S → Puts S → Opens S T → Command → Step S Asked → Known → (old : S) → Output → Result Answer Report → Type 0

@@ -3,7 +3,7 @@ use Rattle.std.specs.Prelude.{◌≡◌, ◌⊎◌, ℕ, Bool, ◌&&◌, not, Li
 use Rattle.inc_text.specs.declared.languages.Language.{Language}
 use Rattle.inc_lookup.specs.IncludePath.{NamedPath}
 use Rattle.inc_lookup.specs.Projects.{Layout, SearchPath}
-use Rattle.inc_report.specs.Terms as report
+use Rattle.inc_answers.specs.Terms as report
 use Rattle.inc_args.specs.Meaning.{FileWords, Limits, Question}
 use Rattle.inc_graph.specs.Marks.{Cost as EdgeCost, Mark}
 use Rattle.inc_cost.specs.Costs.{Group}

@@ -4,14 +4,13 @@ use Rattle.std.specs.Io.KnownBytes.{Keeps}
 use Rattle.inc_text.specs.declared.devices.ReadFault.{ReadFault}
 use Rattle.inc_text.specs.declared.devices.ReadFault.TheVariants.{TooLong}
 use Rattle.inc_text.specs.declared.languages.Language.{Language}
-use Rattle.inc_report.specs.Printed.{Printed}
-use Rattle.inc_report.specs.ScanForms.{scan, too_long}
-use Rattle.inc_report.specs.Writing.{Writes, is_own}
-use Rattle.inc_report.specs.declared.outcome.End.{End}
-use Rattle.inc_report.specs.declared.outcome.RunFault.{RunFault}
-use Rattle.inc_report.specs.declared.scan.ScanForm.{ScanForm}
+use Rattle.inc_answers.specs.Printed.{Printed}
+use Rattle.inc_answers.specs.ScanForms.{scan, too_long}
+use Rattle.inc_answers.specs.Writing.{Writes, is_own}
+use Rattle.inc_answers.specs.declared.outcome.End.{End}
+use Rattle.inc_answers.specs.declared.outcome.RunFault.{RunFault}
+use Rattle.inc_answers.specs.declared.scan.ScanForm.{ScanForm}
 use Rattle.inc_inputs.specs.Inputs.{FileAt, Gives, Input, StandardInput}
-use Rattle.inc_inputs.specs.declared.failures.Hindrance.TheVariants.{Other}
 use Rattle.inc_cli.specs.Outputs.{Answer, Output, ended}
 use Rattle.inc_inputs.specs.Reports.{Report, read_report}
 
@@ -31,7 +30,7 @@ scanned_title path = unwrap_or path (codes "<stdin>")
 -- this was printed
 abbrev pub IsOut : Printed → Output → Result Answer Report → Type 0
 IsOut p out answer =
-    (result : Result End RunFault) × (answer ≡ ended [] [] [] Other result) × Writes (λ q. q ≡ p) out.before out.after out.failed result
+    (result : Result End RunFault) × (answer ≡ ended [] [] [] result) × Writes (λ q. q ≡ p) out.before out.after out.failed result
     × IfErr result (λ fault. is_own fault ≡ true)
 
 -- what is printed where it was not read. Standard input that is too long is refused as a source is

@@ -2,9 +2,10 @@
 use Rattle.std.specs.Prelude.{ℕ, Bool, List, Option, Result, map}
 use Rattle.inc_cost.specs.Costs.{Group}
 use Rattle.inc_lookup.specs.Projects.{Layout}
-use Rattle.inc_report.specs.RuleViews.{seen_list}
-use Rattle.inc_report.specs.Terms.{Question, Limits, PpQuestion}
-use Rattle.inc_report.specs.declared.outcome.End.{End}
+use Rattle.inc_answers.specs.RuleViews.{seen_list}
+use Rattle.inc_answers.specs.Terms.{Question, Limits}
+use Rattle.inc_report.specs.PpTerms.{PpQuestion}
+use Rattle.inc_answers.specs.declared.outcome.End.{End}
 use Rattle.inc_inputs.specs.Reports.{Report}
 use Rattle.inc_inputs.specs.Views.{baseline_in, seen}
 use Rattle.inc_inputs.specs.declared.failures.Failure.{Failure}

@@ -8,19 +8,22 @@ ghost use Rattle.inc_cli.specs.Views.{asked_in, output_of, seen_command, seen_en
 ghost use Rattle.inc_cost.specs.Costs.{Group as Grouped};
 ghost use Rattle.inc_inputs.specs.Inputs.{listed};
 ghost use Rattle.inc_inputs.specs.Reports.{out_of_memory};
-ghost use Rattle.inc_report.specs.Questions.{FailsAt};
-ghost use Rattle.inc_report.specs.Writing.{is_of_certificate};
+ghost use Rattle.inc_answers.specs.Questions.{FailsAt};
+ghost use Rattle.inc_answers.specs.Writing.{is_of_certificate};
 
 use crate::answers::Answer;
 use crate::commands::{Command, RuleForm};
 use crate::reports::run_failure;
+use inc_answers::{
+    CostWords, Details, End, Limits, Question, RunFault, TreeForm, run_cost, run_graph, run_trees,
+    run_who, run_why,
+};
 use inc_cost::Group;
-use inc_inputs::{Failure, Hindrance, Inputs, ListedFiles};
+use inc_inputs::{Failure, Inputs, ListedFiles};
 use inc_lookup::Project;
 use inc_report::{
-    CostWords, Details, End, Limits, NamedForm, Question, RunFault, TreeForm, run_baseline,
-    run_blank, run_check, run_cost, run_cut, run_graph, run_named, run_patch, run_rules, run_sarif,
-    run_trees, run_who, run_why,
+    NamedForm, run_baseline, run_blank, run_check, run_cut, run_named, run_patch, run_rules,
+    run_sarif,
 };
 use inc_text::ByteSink;
 use std::alloc::Global;
@@ -208,20 +211,19 @@ fn details_of<'d>(
     }
 }
 
-/// How a call that prints ended, with what was noted before it, or by what is reported of it and of what stood in the way of a file.
+/// How a call that prints ended, with what was noted before it, or by what is reported of it.
 pub(crate) fn end_of(
     alloc: Global,
     ending: Result<End, RunFault>,
     notes: Vec<u8>,
     paths: &[&[u8]],
     certificate: &str,
-    hindrance: Hindrance,
 ) -> Result<Answer, Failure>
     ensures { seen_end result ≢ Err out_of_memory →
-        seen_end result ≡ ended notes.items (map (λ p. p.now) paths.now) certificate.now hindrance ending }
+        seen_end result ≡ ended notes.items (map (λ p. p.now) paths.now) certificate.now ending }
 {
     match ending {
         Ok(end) => Ok(Answer { end, notes }),
-        Err(fault) => Err(run_failure(alloc, fault, paths, certificate, hindrance)?),
+        Err(fault) => Err(run_failure(alloc, fault, paths, certificate)?),
     }
 }

@@ -1,5 +1,5 @@
 //! How a run ends that is answered.
-use inc_report::End;
+use inc_answers::End;
 
 /// How a run ends that is answered, and what is noted beside the answer.
 #[derive(Drop)]

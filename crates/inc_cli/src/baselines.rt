@@ -7,22 +7,23 @@ ghost use Rattle.inc_cost.specs.Costs.{Group as Grouped};
 ghost use Rattle.inc_inputs.specs.Reports.{out_of_memory};
 ghost use Rattle.inc_inputs.specs.Steps.{Comes, comes_to, then};
 ghost use Rattle.inc_inputs.specs.WrittenBaselines.{writes_baseline};
-ghost use Rattle.inc_report.specs.RuleViews.{seen_list};
-ghost use Rattle.inc_report.specs.Terms.{Limits};
+ghost use Rattle.inc_answers.specs.RuleViews.{seen_list};
+ghost use Rattle.inc_answers.specs.Terms.{Limits};
 
 use crate::answering::end_of;
 use crate::answers::Answer;
 use crate::runs::Setup;
+use inc_answers::{EndKind, Question, RuleList};
 use inc_inputs::{Failure, Inputs, ListedFiles, write_baseline};
 use inc_lookup::Project;
-use inc_report::{EndKind, Format, Question, RuleList, run_baseline};
+use inc_report::{Format, run_baseline};
 use inc_text::ByteSink;
 use std::alloc::{AllocError, Global};
 
 /// Answers what breaks rules beside the directives of their baseline, and writes that to the file of this name, in a project whose files have
 /// these paths, beside these notes.
 pub(crate) fn answer_written<I: Inputs, O: ByteSink>(
-    setup: &Setup<'_>,
+    setup: &Setup,
     format: Option<Format>,
     list: RuleList<'_>,
     name: &str,
@@ -43,8 +44,7 @@ pub(crate) fn answer_written<I: Inputs, O: ByteSink>(
     let alloc = setup.alloc;
     let files = ListedFiles { inputs, paths };
     let (ended, files, out) = run_baseline(alloc, project, files, question, list, format, out);
-    let hindrance = setup.hindrance.get();
-    let told = end_of(alloc, ended, notes, paths, "", hindrance);
+    let told = end_of(alloc, ended, notes, paths, "");
     let mut inputs = files.inputs;
     (write_beside(alloc, &mut inputs, name, told), out)
 }

@@ -3,12 +3,13 @@ ghost use Rattle.std.specs.Prelude.{◌≡◌, map, option_map};
 ghost use Rattle.inc_cli.specs.Commands.{baseline_of, bounded, certificate_of, format_in, has_headers, headers_of, named_form, plain_form, rules_name, rules_of, top_of};
 ghost use Rattle.inc_cli.specs.Views.{seen_command};
 ghost use Rattle.inc_inputs.specs.Views.{baseline_in};
-ghost use Rattle.inc_report.specs.RuleViews.{seen_list};
+ghost use Rattle.inc_answers.specs.RuleViews.{seen_list};
 
+use inc_answers::{Asked, RuleList};
 use inc_inputs::Baseline;
-use inc_report::{Asked, Format, NamedForm, RuleList};
+use inc_report::{Format, NamedForm};
 
-/// How it is told which rules are broken.
+/// How broken rules are printed.
 #[derive(Clone, Copy)]
 pub(crate) enum RuleForm {
     /// As text.

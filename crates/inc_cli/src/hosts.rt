@@ -3,10 +3,12 @@ ghost use Rattle.std.specs.Prelude.{◌≡◌, false};
 ghost use Rattle.std.specs.Io.{ReadsAtMost, WritesAtMost};
 
 use crate::folders::list_files;
+use crate::hindrances::{fault_of, hindrance_of};
 use crate::listed_files::{ListedFiles, Unopened};
 use crate::progress::Progress;
 use crate::reports::{report, usage_status};
 use crate::runs::{Ended, run};
+use crate::shown::{Character, escaped};
 use clap::Error as UsageError;
 use inc_inputs::{Excluded, Failure, Hindrance, Inputs};
 use inc_text::{ByteSink, ByteSource, DeviceFault, ReadFault, read_file};
@@ -27,8 +29,8 @@ pub struct HostInputs<'a> {
 }
 
 impl<'a> HostInputs<'a> {
-    /// The files and the standard input of the process. `hindrance` holds what stood in the way of the file of a list that was read last,
-    /// and `progress` counts these files.
+    /// The files and the standard input of the process. `hindrance` keeps what stood in the way of what was read or written last, and
+    /// `progress` counts the files of the list.
     pub(crate) fn new(
         rt: &'a HostRuntime,
         seed: u64,
@@ -68,7 +70,9 @@ impl<'a> Inputs for HostInputs<'a> {
             return Err(ReadFault::Read);
         };
         match self.listed.open(self.rt, name) {
-            Ok((file, expected)) => read_file(alloc, &mut HostReader::new(file), expected),
+            Ok((file, expected)) => {
+                read_file(alloc, &mut HostReader::new(file, self.hindrance), expected)
+            }
             Err(Unopened::NoMemory) => Err(ReadFault::NoMemory),
             Err(Unopened::Hindered(hindrance)) => {
                 self.hindrance.set(hindrance);
@@ -78,19 +82,15 @@ impl<'a> Inputs for HostInputs<'a> {
     }
 
     fn read_file(&mut self, alloc: Global, path: &[u8]) -> Result<Vec<u8>, ReadFault> {
-        // A path that is not UTF-8 cannot be opened.
-        let Ok(name) = str::from_utf8(path) else {
-            return Err(ReadFault::Read);
-        };
-        let Ok(file) = fs::open(self.rt, name) else {
-            return Err(ReadFault::Read);
-        };
+        let file = self.open_named(path)?;
         let expected = expected_len(&file);
-        read_file(alloc, &mut HostReader::new(file), expected)
+        read_file(alloc, &mut HostReader::new(file, self.hindrance), expected)
     }
 
     fn read_input(&mut self, alloc: Global) -> Result<Vec<u8>, ReadFault> {
-        read_file(alloc, &mut HostReader::new(self.rt.reader()), 0)
+        self.hindrance.set(Hindrance::Other);
+        let mut reader = HostReader::new(self.rt.reader(), self.hindrance);
+        read_file(alloc, &mut reader, 0)
     }
 
     fn list_files(
@@ -99,27 +99,24 @@ impl<'a> Inputs for HostInputs<'a> {
         folder: &str,
         exclude: &[&str],
     ) -> Result<Vec<u8>, ReadFault> {
+        self.hindrance.set(Hindrance::Other);
         self.listed.trust(self.rt, folder)?;
-        list_files(self.rt, folder, &mut Excluded::new(alloc, exclude)?)
+        let mut excluded = Excluded::new(alloc, exclude)?;
+        let follows = self.listed.follows();
+        list_files(self.rt, folder, &mut excluded, follows, self.hindrance)
     }
 
     fn read_whole(&mut self, alloc: Global, path: &[u8]) -> Result<Vec<u8>, ReadFault> {
-        // A path that is not UTF-8 cannot be opened.
-        let Ok(name) = str::from_utf8(path) else {
-            return Err(ReadFault::Read);
-        };
-        let Ok(file) = fs::open(self.rt, name) else {
-            return Err(ReadFault::Read);
-        };
+        let file = self.open_named(path)?;
         let expected = expected_len(&file);
-        read_whole(alloc, &mut HostReader::new(file), expected)
+        read_whole(alloc, &mut HostReader::new(file, self.hindrance), expected)
     }
 
     fn run_folder(&mut self, alloc: Global) -> Result<Vec<u8>, ReadFault> {
+        self.hindrance.set(Hindrance::Other);
         match env::current_dir(self.rt) {
             Ok(folder) => Ok(Vec::from_slice(alloc, folder.as_str().as_bytes())?),
-            Err(error) if error.kind() == ErrorKind::OutOfMemory => Err(ReadFault::NoMemory),
-            Err(_) => Err(ReadFault::Read),
+            Err(error) => Err(fault_of(error, self.hindrance)),
         }
     }
 
@@ -128,6 +125,7 @@ impl<'a> Inputs for HostInputs<'a> {
             rt: self.rt,
             name: String::from_str(alloc, name)?,
             file: None,
+            hindrance: self.hindrance,
             failed: false,
         })
     }
@@ -135,7 +133,25 @@ impl<'a> Inputs for HostInputs<'a> {
     fn write_file(&mut self, name: &str, text: &[u8]) -> Result<(), DeviceFault> {
         match fs::write(self.rt, name, text) {
             Ok(()) => Ok(()),
-            Err(_) => Err(DeviceFault),
+            Err(error) => {
+                self.hindrance.set(hindrance_of(&error));
+                Err(DeviceFault)
+            }
+        }
+    }
+}
+
+impl HostInputs<'_> {
+    /// Opens the file at a path that a word is.
+    fn open_named(&self, path: &[u8]) -> Result<File, ReadFault> {
+        self.hindrance.set(Hindrance::Other);
+        // A path that is not UTF-8 cannot be opened.
+        let Ok(name) = str::from_utf8(path) else {
+            return Err(ReadFault::Read);
+        };
+        match fs::open(self.rt, name) {
+            Ok(file) => Ok(file),
+            Err(error) => Err(fault_of(error, self.hindrance)),
         }
     }
 }
@@ -146,7 +162,7 @@ const PIECE_LEN: usize = 65_536;
 /// All bytes of a file, however many these are. Memory is taken at once for as many as the host says.
 fn read_whole<R: Read>(
     alloc: Global,
-    reader: &mut HostReader<R>,
+    reader: &mut HostReader<'_, R>,
     expected: usize,
 ) -> Result<Vec<u8>, ReadFault> {
     let mut bytes = Vec::with_capacity(alloc, expected)?;
@@ -204,24 +220,27 @@ fn too_many_signals() -> Error {
 
 /// A file or standard input, from where it is.
 #[derive(Drop)]
-struct HostReader<R> {
+struct HostReader<'a, R> {
     reader: R,
+    /// What stands in its way.
+    hindrance: &'a Cell<Hindrance>,
     failed: bool,
 }
 
-impl<R: Read> HostReader<R> {
-    /// The bytes that a reader gives.
-    fn new(reader: R) -> Self
+impl<'a, R: Read> HostReader<'a, R> {
+    /// The bytes that a reader gives. `hindrance` keeps what stands in its way.
+    fn new(reader: R, hindrance: &'a Cell<Hindrance>) -> Self
         ensures { result.failed ≡ false }
     {
         HostReader {
             reader,
+            hindrance,
             failed: false,
         }
     }
 }
 
-impl<R: Read> ByteSource for HostReader<R> {
+impl<R: Read> ByteSource for HostReader<'_, R> {
     ghost use Rattle.std.specs.Prelude.{None};
 
     // std says nothing of the bytes that a file or standard input gives
@@ -232,7 +251,8 @@ impl<R: Read> ByteSource for HostReader<R> {
     fn read(&mut self, into: &mut [u8]) -> Result<usize, DeviceFault> {
         match read_again(&mut self.reader, into) {
             Ok(count) => Ok(count),
-            Err(_) => {
+            Err(error) => {
+                self.hindrance.set(hindrance_of(&error));
                 self.failed = true;
                 Err(DeviceFault)
             }
@@ -251,6 +271,8 @@ pub struct HostStream<'a> {
     rt: &'a HostRuntime,
     name: String,
     file: Option<File>,
+    /// What stands in its way.
+    hindrance: &'a Cell<Hindrance>,
     failed: bool,
 }
 
@@ -284,7 +306,8 @@ impl ByteSource for HostStream<'_> {
     fn read(&mut self, into: &mut [u8]) -> Result<usize, DeviceFault> {
         match self.read_host(into) {
             Ok(count) => Ok(count),
-            Err(_) => {
+            Err(error) => {
+                self.hindrance.set(hindrance_of(&error));
                 self.failed = true;
                 Err(DeviceFault)
             }
@@ -315,7 +338,7 @@ impl Pipes {
 
 /// Standard output or standard error. What is written to one of them is dropped once it is a pipe that nobody reads any more. Once standard
 /// output is one, as after `| head`, messages are dropped, too, so that the process ends without one. The line on progress is taken away
-/// before anything is written.
+/// before anything is written. A terminal is shown bytes that it would take as orders, as `\xNN`.
 #[derive(Drop)]
 struct HostSink<'a, W> {
     rt: &'a HostRuntime,
@@ -325,12 +348,23 @@ struct HostSink<'a, W> {
     gone: &'a Cell<bool>,
     /// Whether nobody reads standard output any more.
     output_gone: &'a Cell<bool>,
+    /// How much of a character a terminal got; none where it is no terminal.
+    shown: Option<Character>,
+    /// What stands in the way of what is written.
+    hindrance: &'a Cell<Hindrance>,
     failed: bool,
 }
 
 impl<'a, W: Write> HostSink<'a, W> {
     /// Standard output.
-    fn output(rt: &'a HostRuntime, writer: W, pipes: &'a Pipes, progress: &'a Progress) -> Self
+    fn output(
+        rt: &'a HostRuntime,
+        writer: W,
+        pipes: &'a Pipes,
+        progress: &'a Progress,
+        hindrance: &'a Cell<Hindrance>,
+        is_terminal: bool,
+    ) -> Self
         ensures { result.failed ≡ false }
     {
         HostSink {
@@ -339,12 +373,20 @@ impl<'a, W: Write> HostSink<'a, W> {
             progress,
             gone: &pipes.output,
             output_gone: &pipes.output,
+            shown: shown_by(is_terminal),
+            hindrance,
             failed: false,
         }
     }
 
     /// Standard error.
-    fn messages(rt: &'a HostRuntime, writer: W, pipes: &'a Pipes, progress: &'a Progress) -> Self
+    fn messages(
+        rt: &'a HostRuntime,
+        writer: W,
+        pipes: &'a Pipes,
+        progress: &'a Progress,
+        hindrance: &'a Cell<Hindrance>,
+    ) -> Self
         ensures { result.failed ≡ false }
     {
         HostSink {
@@ -353,8 +395,51 @@ impl<'a, W: Write> HostSink<'a, W> {
             progress,
             gone: &pipes.messages,
             output_gone: &pipes.output,
+            shown: shown_by(rt.stderr().is_terminal()),
+            hindrance,
             failed: false,
         }
+    }
+}
+
+/// No character has begun, where it is a terminal.
+fn shown_by(is_terminal: bool) -> Option<Character> {
+    if is_terminal {
+        Some(Character::none())
+    } else {
+        None
+    }
+}
+
+impl<W: Write> HostSink<'_, W> {
+    /// Writes the first bytes of a piece to where the stream leads.
+    fn send(&mut self, piece: &[u8]) -> Result<usize, Error>
+        ensures bound { WritesAtMost result piece.now }
+        ensures same { self.new.failed ≡ self.old.failed }
+    {
+        let Some(character) = self.shown else {
+            return write_again(&mut self.writer, piece);
+        };
+        let len = character.shown_len(piece);
+        if len == 0 {
+            return self.send_escaped(piece);
+        }
+        let count = write_again(&mut self.writer, &piece[..len])?;
+        self.shown = Some(character.with_all(&piece[..count]));
+        Ok(count)
+    }
+
+    /// Writes what is shown in place of the first byte of a piece.
+    fn send_escaped(&mut self, piece: &[u8]) -> Result<usize, Error>
+        ensures bound { WritesAtMost result piece.now }
+        ensures same { self.new.failed ≡ self.old.failed }
+    {
+        let [byte, ..] = piece else {
+            return Ok(0);
+        };
+        self.writer.write_all(&escaped(*byte))?;
+        self.shown = Some(Character::none());
+        Ok(1)
     }
 }
 
@@ -371,10 +456,11 @@ impl<W: Write> ByteSink for HostSink<'_, W> {
             return Ok(piece.len());
         }
         self.progress.clear(self.rt);
-        match write_again(&mut self.writer, piece) {
+        match self.send(piece) {
             Ok(count) if count > 0 || piece.is_empty() => return Ok(count),
             Err(error) if error.kind() == ErrorKind::BrokenPipe => self.gone.set(true),
-            _ => {}
+            Err(error) => self.hindrance.set(hindrance_of(&error)),
+            _ => self.hindrance.set(Hindrance::Other),
         }
         self.failed = true;
         Err(DeviceFault)
@@ -389,11 +475,45 @@ impl<W: Write> ByteSink for HostSink<'_, W> {
 pub fn run_process(rt: &HostRuntime) -> u8 {
     let pipes = Pipes::new();
     let progress = Progress::new();
-    let messages = HostSink::messages(rt, rt.stderr(), &pipes, &progress);
+    let hindrance = Cell::new(Hindrance::Other);
+    let messages = HostSink::messages(rt, rt.stderr(), &pipes, &progress, &hindrance);
     match words_of(rt) {
-        Ok(words) => run_words(rt, &words, &pipes, &progress, messages),
-        Err(failure) => report(&failure, messages).0,
+        Ok(words) => run_or_help(rt, words, &pipes, &progress, &hindrance, messages),
+        Err(failure) => report(&failure, Hindrance::Other, messages).0,
     }
+}
+
+/// Runs the program for these words. Where there are none, and standard input is a terminal, it prints the help in place of waiting for a
+/// source.
+fn run_or_help<'a, E: ByteSink + Drop>(
+    rt: &'a HostRuntime,
+    words: Vec<String>,
+    pipes: &'a Pipes,
+    progress: &'a Progress,
+    hindrance: &'a Cell<Hindrance>,
+    messages: E,
+) -> u8
+    requires { E.has_failed messages ≡ false }
+{
+    if words.len() > 1 || !rt.stdin().is_terminal() {
+        return run_words(rt, &words, pipes, progress, hindrance, messages);
+    }
+    match with_help(rt, words) {
+        Ok(words) => unasked(run_words(rt, &words, pipes, progress, hindrance, messages)),
+        Err(failure) => report(&failure, Hindrance::Other, messages).0,
+    }
+}
+
+/// The words of the process and `--help`.
+fn with_help(rt: &HostRuntime, words: Vec<String>) -> Result<Vec<String>, Failure> {
+    let mut words = words;
+    words.push(String::from_str(rt.alloc(), "--help")?)?;
+    Ok(words)
+}
+
+/// The status of a help that nobody asked for: that of bad words.
+fn unasked(status: u8) -> u8 {
+    if status == 0 { 2 } else { status }
 }
 
 /// Runs the program for these words.
@@ -402,22 +522,22 @@ fn run_words<'a, E: ByteSink + Drop>(
     words: &[String],
     pipes: &'a Pipes,
     progress: &'a Progress,
+    hindrance: &'a Cell<Hindrance>,
     messages: E,
 ) -> u8
     requires { E.has_failed messages ≡ false }
 {
-    let out = HostSink::output(rt, io::writer(rt), pipes, progress);
-    let seed = new_seed(rt);
-    let hindrance = Cell::new(Hindrance::Other);
-    let inputs = HostInputs::new(rt, seed, &hindrance, progress);
     let is_terminal = rt.stdout().is_terminal();
+    let out = HostSink::output(rt, io::writer(rt), pipes, progress, hindrance, is_terminal);
+    let seed = new_seed(rt);
+    let inputs = HostInputs::new(rt, seed, hindrance, progress);
     let (ended, _out, messages) = run(
         rt.alloc(),
         seed,
         words,
         is_terminal,
         inputs,
-        &hindrance,
+        hindrance,
         out,
         messages,
     );
@@ -434,7 +554,9 @@ fn print_usage<E: ByteSink + Drop>(rt: &HostRuntime, error: &UsageError, message
 {
     match error.print(rt) {
         Err(fault) if fault.kind() == ErrorKind::BrokenPipe => Failure::CannotWrite.status(),
-        Err(_) if !error.use_stderr() => report(&Failure::CannotWrite, messages).0,
+        Err(fault) if !error.use_stderr() => {
+            report(&Failure::CannotWrite, hindrance_of(&fault), messages).0
+        }
         _ => usage_status(error),
     }
 }

@@ -7,6 +7,7 @@ mod answers;
 mod baselines;
 mod commands;
 mod folders;
+mod hindrances;
 mod hosts;
 mod listed_files;
 mod notes;
@@ -17,6 +18,7 @@ mod reports;
 mod rules;
 mod runs;
 mod scan;
+mod shown;
 
 pub use hosts::run_process;
 pub use reports::{exit_of, report};

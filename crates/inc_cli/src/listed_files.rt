@@ -1,11 +1,12 @@
 //! The files of the host that a list names.
+use crate::hindrances::hindrance_of;
 use inc_inputs::Hindrance;
 use inc_text::SeededState;
 use indexmap::IndexSet;
 use std::alloc::AllocError;
 use std::fs;
 use std::fs::{File, Metadata};
-use std::io::Error;
+use std::io::{Error, ErrorKind};
 
 /// Why a file of the list is not opened.
 #[derive(Clone, Copy)]
@@ -23,8 +24,11 @@ impl From<AllocError> for Unopened {
 }
 
 impl From<Error> for Unopened {
-    fn from(_error: Error) -> Unopened {
-        Unopened::Hindered(Hindrance::Other)
+    fn from(error: Error) -> Unopened {
+        match error.kind() {
+            ErrorKind::OutOfMemory => Unopened::NoMemory,
+            _ => Unopened::Hindered(hindrance_of(&error)),
+        }
     }
 }
 
@@ -45,6 +49,11 @@ impl ListedFiles {
             follows: false,
             folders: IndexSet::with_hasher(rt.alloc(), SeededState::new(seed)),
         }
+    }
+
+    /// Whether links are followed.
+    pub fn follows(&self) -> bool {
+        self.follows
     }
 
     /// Sets whether links are followed.

@@ -2,20 +2,21 @@
 ghost use Rattle.std.specs.Prelude.{◌≡◌, ◌++◌, Ok, OnErr, OnOk, false, is_err};
 ghost use Rattle.std.specs.Io.KnownBytes.{Appends};
 ghost use Rattle.inc_text.specs.Devices.{AppendsFront};
+ghost use Rattle.inc_inputs.specs.declared.failures.Hindrance.{Hindrance};
 ghost use Rattle.inc_cli.specs.Notes.{notes_if, reason_of};
 ghost use Rattle.inc_cli.specs.Processes.{IsTold};
 ghost use Rattle.inc_cli.specs.Views.{answer_in, output_of};
 
 use crate::answers::Answer;
 use crate::reports::exit_of;
-use inc_report::{End, EndKind};
+use inc_answers::{End, EndKind};
 use inc_text::{ByteSink, DeviceFault, write_whole};
 
 /// Writes the notes beside an answer, or where they are turned off reasons alone, and gives the exit status, which a note that
 /// cannot be written does not change.
 pub(crate) fn note<E: ByteSink>(answer: &Answer, is_quiet: bool, messages: E) -> (u8, E)
     requires { E.has_failed messages ≡ false }
-    ensures { IsTold is_quiet (Ok (answer_in answer.now)) result.0
+    ensures { (hindrance : Hindrance) → IsTold is_quiet hindrance (Ok (answer_in answer.now)) result.0
         (output_of (E.written messages) (E.written result.1) (E.has_failed result.1)) }
 {
     let mut messages = messages;
@@ -40,7 +41,8 @@ fn write_notes<E: ByteSink>(
     if is_quiet {
         return write_both(messages, reason_of(&answer.end), stops);
     }
-    write_each(messages, &answer.notes, answer.end.notes.text(), stops)
+    // Those of the words stand before those of the answer, and then why sources stopped.
+    write_three(messages, &answer.notes, answer.end.notes.text(), stops)
 }
 
 /// The reason of a refusal, which stays where notes are turned off.
@@ -53,22 +55,22 @@ fn reason_of(end: &End) -> &[u8]
     }
 }
 
-/// Writes the notes of the words, then those of the answer, and then why sources stopped.
-fn write_each<E: ByteSink>(
+/// Writes three texts, one after the other.
+pub(crate) fn write_three<E: ByteSink>(
     messages: &mut E,
-    words: &[u8],
-    headers: &[u8],
-    stops: &[u8],
+    first: &[u8],
+    second: &[u8],
+    third: &[u8],
 ) -> Result<(), DeviceFault>
     requires { E.has_failed messages.old ≡ false }
     ensures whole { OnOk result (Appends (E.written messages.old) (E.written messages.new)
-        (words.now ++ (headers.now ++ stops.now))) }
+        (first.now ++ (second.now ++ third.now))) }
     ensures front { OnErr result (AppendsFront (E.written messages.old) (E.written messages.new)
-        (words.now ++ (headers.now ++ stops.now))) }
+        (first.now ++ (second.now ++ third.now))) }
     ensures failed { E.has_failed messages.new ≡ is_err result }
 {
-    write_whole(messages, words)?;
-    write_both(messages, headers, stops)
+    write_whole(messages, first)?;
+    write_both(messages, second, third)
 }
 
 /// Writes one text after the other.

@@ -13,6 +13,7 @@ ghost use Rattle.inc_inputs.specs.Views.{macro_of, pp_texts_in, project_in, seen
 use crate::answering::end_of;
 use crate::answers::Answer;
 use crate::runs::Setup;
+use inc_answers::{End, RunFault};
 use inc_args::PpArgs;
 use inc_check::number_in;
 use inc_inputs::{
@@ -23,14 +24,14 @@ use inc_inputs::{
 };
 use inc_lookup::{NamedDir, NamedPath, Project};
 use inc_pp::{Missing, Settings};
-use inc_report::{End, PpQuestion, RunFault, run_pp};
+use inc_report::{PpQuestion, run_pp};
 use inc_text::ByteSink;
 use std::alloc::{AllocError, Global};
 use std::mem::{forget, replace};
 
 /// Reads what a preprocessing rests on, and prints what it gives of each source.
 pub(crate) fn preprocess<I: Inputs, O: ByteSink>(
-    setup: &Setup<'_>,
+    setup: &Setup,
     args: &PpArgs<'_>,
     inputs: I,
     out: O,
@@ -48,7 +49,7 @@ pub(crate) fn preprocess<I: Inputs, O: ByteSink>(
 
 /// The same where the word for how many bytes are read is a number.
 fn preprocess_limited<I: Inputs, O: ByteSink>(
-    setup: &Setup<'_>,
+    setup: &Setup,
     args: &PpArgs<'_>,
     inputs: I,
     out: O,
@@ -66,7 +67,7 @@ fn preprocess_limited<I: Inputs, O: ByteSink>(
 
 /// The same where that for how many bytes are printed is one, too.
 fn preprocess_bounded<I: Inputs, O: ByteSink>(
-    setup: &Setup<'_>,
+    setup: &Setup,
     args: &PpArgs<'_>,
     inputs: I,
     out: O,
@@ -84,7 +85,7 @@ fn preprocess_bounded<I: Inputs, O: ByteSink>(
 
 /// The same where each of the words for files to write names one.
 fn preprocess_apart<I: Inputs, O: ByteSink>(
-    setup: &Setup<'_>,
+    setup: &Setup,
     args: &PpArgs<'_>,
     inputs: I,
     out: O,
@@ -102,7 +103,7 @@ fn preprocess_apart<I: Inputs, O: ByteSink>(
 
 /// The same where what is to be written goes to files of its own.
 fn preprocess_without<I: Inputs, O: ByteSink>(
-    setup: &Setup<'_>,
+    setup: &Setup,
     args: &PpArgs<'_>,
     inputs: I,
     out: O,
@@ -120,7 +121,7 @@ fn preprocess_without<I: Inputs, O: ByteSink>(
 
 /// The same where the words for files that are left out are globs.
 fn preprocess_named<I: Inputs, O: ByteSink>(
-    setup: &Setup<'_>,
+    setup: &Setup,
     args: &PpArgs<'_>,
     inputs: I,
     out: O,
@@ -147,7 +148,7 @@ fn preprocess_named<I: Inputs, O: ByteSink>(
 
 /// The same of the project of a build, with its words in place of those of the command line.
 fn preprocess_found<I: Inputs, O: ByteSink>(
-    setup: &Setup<'_>,
+    setup: &Setup,
     args: &PpArgs<'_>,
     found: BuildProject,
     inputs: I,
@@ -166,7 +167,7 @@ fn preprocess_found<I: Inputs, O: ByteSink>(
 
 /// The same of such a project without its list and its notes, which stand beside it.
 fn preprocess_build<'f, I: Inputs, O: ByteSink>(
-    setup: &Setup<'_>,
+    setup: &Setup,
     args: &'f PpArgs<'f>,
     found: &'f BuildProject,
     list: Vec<u8>,
@@ -192,7 +193,7 @@ fn preprocess_build<'f, I: Inputs, O: ByteSink>(
 
 /// The same of texts that were read, or not, with the words for macros of an entry, beside these notes.
 fn preprocess_read<I: Inputs, O: ByteSink>(
-    setup: &Setup<'_>,
+    setup: &Setup,
     args: &PpArgs<'_>,
     macros: &[MacroWord],
     texts: Result<PpTexts, Failure>,
@@ -218,7 +219,7 @@ fn preprocess_read<I: Inputs, O: ByteSink>(
 
 /// The same once the texts are read.
 fn preprocess_texts<I: Inputs, O: ByteSink>(
-    setup: &Setup<'_>,
+    setup: &Setup,
     args: &PpArgs<'_>,
     macros: &[MacroWord],
     texts: &PpTexts,
@@ -264,8 +265,7 @@ fn preprocess_texts<I: Inputs, O: ByteSink>(
     let (ended, out) = print_each(alloc, &project, &mut files, &question, out);
     // The process is about to end: the system takes a table of paths back at once.
     forget(project);
-    let hindrance = setup.hindrance.get();
-    let told = end_of(alloc, ended, notes, &paths, "", hindrance);
+    let told = end_of(alloc, ended, notes, &paths, "");
     (write_beside(alloc, &mut files.inputs, args, told), out)
 }
 
@@ -348,7 +348,7 @@ fn is_no_bound(word: Option<&str>) -> bool
 }
 
 /// How sources are preprocessed, by the words, with this include path.
-fn settings_of<'n>(setup: &Setup<'_>, args: &PpArgs<'_>, dirs: &'n [NamedDir<'n>]) -> Settings<'n>
+fn settings_of<'n>(setup: &Setup, args: &PpArgs<'_>, dirs: &'n [NamedDir<'n>]) -> Settings<'n>
     ensures { let p = seen_pp args.now in result ≡ found_in_settings dirs.now
         (bounded_settings (bound_of p.most_output) (limited_settings (bound_of p.most_read)
         (marked_settings p.has_markers (usual_settings setup.now.language (missing_of p.is_missing_empty))))) }
@@ -362,7 +362,7 @@ fn settings_of<'n>(setup: &Setup<'_>, args: &PpArgs<'_>, dirs: &'n [NamedDir<'n>
 
 /// The include path by the words and by what describes a compiler.
 fn searched<'a>(
-    setup: &Setup<'_>,
+    setup: &Setup,
     args: &PpArgs<'a>,
     texts: &'a PpTexts,
 ) -> Result<NamedPath<'a>, AllocError>
@@ -375,7 +375,7 @@ fn searched<'a>(
 /// The words that define macros: those of the compiler, those of the list of definitions, those of
 /// the entries of a build, those of the command line, and then those of the questions of the language that none of these define.
 fn all_words<'a>(
-    setup: &Setup<'_>,
+    setup: &Setup,
     args: &PpArgs<'a>,
     texts: &'a PpTexts,
     macros: &'a [MacroWord],

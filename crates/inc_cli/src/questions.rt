@@ -1,5 +1,5 @@
 //! Questions about sources and headers of a project.
-ghost use Rattle.std.specs.Prelude.{◌≡◌, ◌≢◌, ◌&&◌, ◌++◌, not, [], ℕ, List, Err, None, Ok, false, IfErr, IfOk, map, unwrap_or};
+ghost use Rattle.std.specs.Prelude.{◌≡◌, ◌≢◌, ◌&&◌, ◌++◌, not, [], Err, None, Ok, false, IfErr, IfOk, map, unwrap_or};
 ghost use Rattle.inc_args.specs.Views.{seen_limits, seen_question};
 ghost use Rattle.inc_inputs.specs.Ends.{are_ends};
 ghost use Rattle.inc_cli.specs.Commands.{baseline_of, has_headers, rules_name};
@@ -23,18 +23,18 @@ use crate::answers::Answer;
 use crate::baselines::answer_written;
 use crate::commands::Command;
 use crate::runs::Setup;
+use inc_answers::{Limits, Question};
 use inc_args::{LimitArgs, QuestionArgs};
 use inc_cost::Group;
 use inc_graph::{Cost, Mark};
 use inc_inputs::{
-    Accepted, Added, BuildProject, EndPaths, Failure, Firsts, Hindrance, Inputs, Listed,
-    ListedFiles, Marked, Places, Texts, accepted_places, are_ends, are_twice, asked_ends,
-    asked_places, bytes_of_words, costs_of, find_question, grouped_ends, include_path, list_paths,
-    named_ends, named_failure, named_places, named_project, other_paths, path_end_in, read_texts,
-    read_texts_beside, read_with, strict_ends, tree_ends, with_question_notes,
+    Accepted, Added, BuildProject, EndPaths, Failure, Firsts, Inputs, Listed, ListedFiles, Marked,
+    Places, Texts, accepted_places, are_ends, are_twice, asked_ends, asked_places, bytes_of_words,
+    costs_of, find_question, grouped_ends, include_path, list_paths, named_ends, named_failure,
+    named_places, named_project, other_paths, path_end_in, read_texts, read_texts_beside,
+    read_with, strict_ends, tree_ends, with_question_notes,
 };
 use inc_lookup::{IncludePath, NamedPath, Project};
-use inc_report::{Limits, Question};
 use inc_text::ByteSink;
 use std::alloc::{AllocError, Global};
 use std::mem::replace;
@@ -67,7 +67,7 @@ struct Opened<'t> {
 
 /// Reads what a question rests on, and answers it.
 pub(crate) fn ask<I: Inputs, O: ByteSink>(
-    setup: &Setup<'_>,
+    setup: &Setup,
     command: Command<'_>,
     question: &QuestionArgs<'_>,
     limits: &LimitArgs<'_>,
@@ -103,7 +103,7 @@ fn lacks_ends(command: Command<'_>, question: &QuestionArgs<'_>) -> bool
 
 /// The same where the words name sources and headers.
 fn ask_named<I: Inputs, O: ByteSink>(
-    setup: &Setup<'_>,
+    setup: &Setup,
     asking: Asking<'_>,
     inputs: I,
     out: O,
@@ -140,7 +140,7 @@ fn ask_named<I: Inputs, O: ByteSink>(
 
 /// The same of the project of a build, with its words in place of those of the question.
 fn ask_found<I: Inputs, O: ByteSink>(
-    setup: &Setup<'_>,
+    setup: &Setup,
     asking: Asking<'_>,
     found: BuildProject,
     inputs: I,
@@ -172,7 +172,7 @@ fn ask_found<I: Inputs, O: ByteSink>(
 
 /// The same of texts that were read, or not, beside what a build adds.
 fn ask_read<I: Inputs, O: ByteSink>(
-    setup: &Setup<'_>,
+    setup: &Setup,
     asking: Asking<'_>,
     texts: Result<Texts, Failure>,
     added: Added,
@@ -206,7 +206,7 @@ fn ask_read<I: Inputs, O: ByteSink>(
 
 /// The same of texts: the list and the costs, and the directives that two others mark.
 fn ask_texts<'t, I: Inputs, O: ByteSink>(
-    setup: &Setup<'_>,
+    setup: &Setup,
     asking: Asking<'t>,
     list: &'t [u8],
     costs: &'t [u8],
@@ -238,7 +238,7 @@ fn ask_texts<'t, I: Inputs, O: ByteSink>(
 
 /// The same of a project.
 fn ask_listed<'p, I: Inputs, O: ByteSink>(
-    setup: &Setup<'_>,
+    setup: &Setup,
     asking: Asking<'p>,
     opened: &'p Opened<'p>,
     project: &'p Project<'p>,
@@ -272,7 +272,7 @@ struct Built {
 
 /// What a build adds to a question once the project stands, with what is noted of its words and lists.
 fn built_paths(
-    setup: &Setup<'_>,
+    setup: &Setup,
     asking: Asking<'_>,
     opened: &Opened<'_>,
     project: &Project<'_>,
@@ -296,7 +296,7 @@ fn built_paths(
 
 /// The same with these include paths.
 fn built_of(
-    setup: &Setup<'_>,
+    setup: &Setup,
     asking: Asking<'_>,
     opened: &Opened<'_>,
     project: &Project<'_>,
@@ -327,7 +327,7 @@ fn built_of(
 
 /// Notes, and what is noted of the words and lists of a question.
 fn noted(
-    setup: &Setup<'_>,
+    setup: &Setup,
     asking: Asking<'_>,
     opened: &Opened<'_>,
     project: &Project<'_>,
@@ -354,7 +354,7 @@ fn noted(
 
 /// The same of a project with what a build adds.
 fn ask_built<'p, I: Inputs, O: ByteSink>(
-    setup: &Setup<'_>,
+    setup: &Setup,
     asking: Asking<'p>,
     opened: &'p Opened<'p>,
     project: &'p Project<'p>,
@@ -379,7 +379,7 @@ fn ask_built<'p, I: Inputs, O: ByteSink>(
 
 /// The same where all marks are known but those of a baseline.
 fn ask_beside<'p, I: Inputs, O: ByteSink>(
-    setup: &Setup<'_>,
+    setup: &Setup,
     asking: Asking<'p>,
     opened: &'p Opened<'p>,
     project: &'p Project<'p>,
@@ -419,7 +419,7 @@ fn ask_beside<'p, I: Inputs, O: ByteSink>(
 
 /// The same where all marks are known.
 fn ask_marked<'p, I: Inputs, O: ByteSink>(
-    setup: &Setup<'_>,
+    setup: &Setup,
     asking: Asking<'p>,
     opened: &'p Opened<'p>,
     project: &'p Project<'p>,
@@ -451,7 +451,7 @@ fn ask_marked<'p, I: Inputs, O: ByteSink>(
 
 /// Marks, and those that the words of a question name in the files of its project.
 fn named_marks<'p, I: Inputs>(
-    setup: &Setup<'_>,
+    setup: &Setup,
     asking: Asking<'p>,
     opened: &'p Opened<'p>,
     project: &'p Project<'p>,
@@ -480,7 +480,7 @@ fn named_marks<'p, I: Inputs>(
 
 /// Directives that are taken as removed, and those of a baseline; and notes, with those of the baseline.
 fn accepted_marks<'p, I: Inputs>(
-    setup: &Setup<'_>,
+    setup: &Setup,
     asking: Asking<'p>,
     opened: &'p Opened<'p>,
     project: &'p Project<'p>,
@@ -504,7 +504,7 @@ fn accepted_marks<'p, I: Inputs>(
 
 /// Answers a question whose sources, headers and directives are known.
 fn ask_placed<'p, I: Inputs, O: ByteSink>(
-    setup: &Setup<'_>,
+    setup: &Setup,
     command: Command<'_>,
     opened: &'p Opened<'p>,
     project: &Project<'_>,
@@ -556,7 +556,7 @@ fn ask_placed<'p, I: Inputs, O: ByteSink>(
 
 /// Answers a question of a project whose files have these paths, and of groups of headers, beside these notes.
 fn answer_beside<I: Inputs, O: ByteSink>(
-    setup: &Setup<'_>,
+    setup: &Setup,
     command: Command<'_>,
     project: &Project<'_>,
     question: &Question<'_>,
@@ -591,8 +591,7 @@ fn answer_beside<I: Inputs, O: ByteSink>(
         out,
     );
     let certificate = command.certificate().unwrap_or("");
-    let hindrance = setup.hindrance.get();
-    let told = end_of(setup.alloc, ended, notes, paths, certificate, hindrance);
+    let told = end_of(setup.alloc, ended, notes, paths, certificate);
     (told, out)
 }
 
@@ -667,7 +666,7 @@ fn ends_for<'p>(
 
 /// What the texts of a question hold.
 fn open_texts<'t>(
-    setup: &Setup<'_>,
+    setup: &Setup,
     question: &'t QuestionArgs<'t>,
     limits: &LimitArgs<'_>,
     list: &'t [u8],

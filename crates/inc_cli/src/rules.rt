@@ -9,24 +9,24 @@ ghost use Rattle.inc_inputs.specs.Reports.{out_of_memory};
 ghost use Rattle.inc_inputs.specs.RuleLists.{rule_text, ruled, rules_by, rules_given};
 ghost use Rattle.inc_inputs.specs.Steps.{then};
 ghost use Rattle.inc_inputs.specs.Views.{baseline_in};
-ghost use Rattle.inc_report.specs.RuleViews.{seen_list};
+ghost use Rattle.inc_answers.specs.RuleViews.{seen_list};
 ghost use Rattle.inc_rules.specs.Views.{seen_rule};
 
 use crate::answers::Answer;
 use crate::commands::{Command, RuleForm};
 use crate::questions::ask;
 use crate::runs::Setup;
+use inc_answers::RuleList;
 use inc_args::{LimitArgs, QuestionArgs, RuleArgs};
 use inc_inputs::{
     Baseline, Failure, Inputs, read_baseline, read_rule_text, rule_name, rules_in, words_failure,
 };
-use inc_report::RuleList;
 use inc_rules::Rule;
 use inc_text::ByteSink;
 
 /// Reads the rules that words give, and the directives that may still break them, and answers which are broken.
 pub(crate) fn ask_rules<I: Inputs, O: ByteSink>(
-    setup: &Setup<'_>,
+    setup: &Setup,
     form: RuleForm,
     question: &QuestionArgs<'_>,
     words: &RuleArgs<'_>,
@@ -49,7 +49,7 @@ pub(crate) fn ask_rules<I: Inputs, O: ByteSink>(
 
 /// The same where nothing is wrong with the words.
 fn ask_rules_once<I: Inputs, O: ByteSink>(
-    setup: &Setup<'_>,
+    setup: &Setup,
     form: RuleForm,
     question: &QuestionArgs<'_>,
     words: &RuleArgs<'_>,
@@ -73,7 +73,7 @@ fn ask_rules_once<I: Inputs, O: ByteSink>(
 
 /// The same of the text of their list.
 fn ask_rules_of<I: Inputs, O: ByteSink>(
-    setup: &Setup<'_>,
+    setup: &Setup,
     form: RuleForm,
     question: &QuestionArgs<'_>,
     words: &RuleArgs<'_>,
@@ -97,7 +97,7 @@ fn ask_rules_of<I: Inputs, O: ByteSink>(
 
 /// The same of rules.
 fn ask_ruled<I: Inputs, O: ByteSink>(
-    setup: &Setup<'_>,
+    setup: &Setup,
     form: RuleForm,
     question: &QuestionArgs<'_>,
     words: &RuleArgs<'_>,

@@ -19,20 +19,21 @@ use crate::reports::report;
 use crate::rules::ask_rules;
 use crate::scan::list_directives;
 use clap::Error;
+use inc_answers::{Asked, ScanForm};
 use inc_args::{
     ArgsFault, Arguments, FormArgs, FormatArgs, LanguageArgs, LimitArgs, QuestionArgs, Request,
     as_options, read_args,
 };
 use inc_check::number_in;
 use inc_inputs::{Failure, Hindrance, Inputs, are_ends};
-use inc_report::{Asked, Format, NamedForm, ScanForm};
+use inc_report::{Format, NamedForm};
 use inc_text::{ByteSink, Language};
 use std::alloc::Global;
 use std::cell::Cell;
 
 /// What all commands are run with.
 #[derive(Clone, Copy)]
-pub(crate) struct Setup<'s> {
+pub(crate) struct Setup {
     pub(crate) alloc: Global,
     /// Tables are hashed with it.
     pub(crate) seed: u64,
@@ -40,8 +41,6 @@ pub(crate) struct Setup<'s> {
     pub(crate) language: Language,
     /// Whether the answer is printed on a terminal.
     pub(crate) is_terminal: bool,
-    /// What stood in the way of the file of the list that was not read.
-    pub(crate) hindrance: &'s Cell<Hindrance>,
 }
 
 /// How a run ends.
@@ -55,7 +54,8 @@ pub enum Ended {
 
 /// Runs the command that the words ask for, the name of the program first; some may be spelled as compilers have them. Its answer goes to
 /// `out`, and the report of a failure, or the notes beside an answer, to `messages`. Tables are hashed with the seed, so whoever writes the
-/// files must not know it. On a terminal an answer is printed in another format, where none is named. Where the inputs do not read a file of the list, `hindrance` holds what stood in its way.
+/// files must not know it. On a terminal an answer is printed in another format, where none is named. Where a file is
+/// not read or not written, `hindrance` holds what stood in its way.
 pub fn run<I: Inputs, O: ByteSink, E: ByteSink>(
     alloc: Global,
     seed: u64,
@@ -96,7 +96,12 @@ pub fn run<I: Inputs, O: ByteSink, E: ByteSink>(
             )
         }
         Err(_) => {
-            let (status, messages) = tell(&Err(Failure::NoMemory), false, messages);
+            let (status, messages) = tell(
+                &Err(Failure::NoMemory),
+                false,
+                Hindrance::Other,
+                messages,
+            );
             (Ended::Status(status), out, messages)
         }
     }
@@ -140,13 +145,18 @@ fn run_options<I: Inputs, O: ByteSink, E: ByteSink>(
 {
     match read_args(alloc, words) {
         Ok(args) => {
-            let (ended, out) = answer(alloc, seed, &args, is_terminal, inputs, hindrance, out);
-            let (status, messages) = tell(&ended, args.is_quiet, messages);
+            let (ended, out) = answer(alloc, seed, &args, is_terminal, inputs, out);
+            let (status, messages) = tell(&ended, args.is_quiet, hindrance.get(), messages);
             (Ended::Status(status), out, messages)
         }
         Err(ArgsFault::Usage(error)) => (Ended::Usage(error), out, messages),
         Err(ArgsFault::NoMemory) => {
-            let (status, messages) = tell(&Err(Failure::NoMemory), false, messages);
+            let (status, messages) = tell(
+                &Err(Failure::NoMemory),
+                false,
+                Hindrance::Other,
+                messages,
+            );
             (Ended::Status(status), out, messages)
         }
     }
@@ -159,7 +169,6 @@ fn answer<I: Inputs, O: ByteSink>(
     args: &Arguments<'_>,
     is_terminal: bool,
     inputs: I,
-    hindrance: &Cell<Hindrance>,
     out: O,
 ) -> (Result<Answer, Failure>, O)
     requires { O.has_failed out ≡ false }
@@ -172,7 +181,7 @@ fn answer<I: Inputs, O: ByteSink>(
 {
     let mut inputs = inputs;
     inputs.begin(args.follows, args.is_quiet);
-    answer_from(alloc, seed, args, is_terminal, inputs, hindrance, out)
+    answer_from(alloc, seed, args, is_terminal, inputs, out)
 }
 
 /// The same once it is set whether links are followed.
@@ -182,7 +191,6 @@ fn answer_from<I: Inputs, O: ByteSink>(
     args: &Arguments<'_>,
     is_terminal: bool,
     inputs: I,
-    hindrance: &Cell<Hindrance>,
     out: O,
 ) -> (Result<Answer, Failure>, O)
     requires { O.has_failed out ≡ false }
@@ -200,7 +208,6 @@ fn answer_from<I: Inputs, O: ByteSink>(
                 seed,
                 language,
                 is_terminal,
-                hindrance,
             };
             answer_in(&setup, &args.request, inputs, out)
         }
@@ -210,7 +217,7 @@ fn answer_from<I: Inputs, O: ByteSink>(
 
 /// Runs a command over files in a language.
 fn answer_in<I: Inputs, O: ByteSink>(
-    setup: &Setup<'_>,
+    setup: &Setup,
     request: &Request<'_>,
     inputs: I,
     out: O,
@@ -325,7 +332,7 @@ fn is_folded(name: Option<&str>) -> bool
     name.unwrap_or("") == "folded"
 }
 
-/// The tree of one source, where nothing else says of what it is told.
+/// The tree of one source, which is what `--of` asks for.
 fn tree_of(
     is_terminal: bool,
     question: &QuestionArgs<'_>,
@@ -394,7 +401,7 @@ fn top_by(word: Option<&str>) -> Result<usize, Failure>
     }
 }
 
-/// The form of this name in which rules are printed. SARIF tells what breaks them, so no baseline is written beside it.
+/// The form of this name in which rules are printed. SARIF says what breaks them, so no baseline is written beside it.
 fn rule_form_of(
     is_terminal: bool,
     name: Option<&str>,
@@ -543,15 +550,21 @@ fn default_format(is_terminal: bool) -> &'static str
     if is_terminal { "gcc" } else { "text" }
 }
 
-/// Writes the notes beside the answer of a run, or reports the failure with which it ended, and gives the exit status.
-fn tell<E: ByteSink>(ended: &Result<Answer, Failure>, is_quiet: bool, messages: E) -> (u8, E)
+/// Writes the notes beside the answer of a run, or reports the failure with which it ended and what stood in its way, and gives the exit
+/// status.
+fn tell<E: ByteSink>(
+    ended: &Result<Answer, Failure>,
+    is_quiet: bool,
+    hindrance: Hindrance,
+    messages: E,
+) -> (u8, E)
     requires { E.has_failed messages ≡ false }
-    ensures { IsTold is_quiet (seen_end ended.now) result.0
+    ensures { IsTold is_quiet hindrance (seen_end ended.now) result.0
         (output_of (E.written messages) (E.written result.1) (E.has_failed result.1)) }
 {
     match ended {
         Ok(answer) => note(answer, is_quiet, messages),
-        Err(failure) => report(failure, messages),
+        Err(failure) => report(failure, hindrance, messages),
     }
 }
 

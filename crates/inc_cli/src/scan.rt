@@ -8,14 +8,14 @@ ghost use Rattle.inc_cli.specs.Views.{output_of, seen_end};
 use crate::answering::end_of;
 use crate::answers::Answer;
 use crate::runs::Setup;
-use inc_inputs::{Failure, Hindrance, Inputs, unread};
-use inc_report::{ScanForm, run_scan_owned, run_scan_too_long};
+use inc_answers::{ScanForm, run_scan_owned, run_scan_too_long};
+use inc_inputs::{Failure, Inputs, unread};
 use inc_text::{ByteSink, ReadFault};
 use std::alloc::Global;
 
 /// Prints the include directives of a file; of standard input, under the path `-`, where there is no path.
 pub(crate) fn list_directives<I: Inputs, O: ByteSink>(
-    setup: &Setup<'_>,
+    setup: &Setup,
     path: Option<&str>,
     form: ScanForm,
     inputs: I,
@@ -47,7 +47,7 @@ fn read_scanned<I: Inputs>(
 
 /// Prints the include directives of what was read.
 fn print_directives<O: ByteSink>(
-    setup: &Setup<'_>,
+    setup: &Setup,
     path: Option<&str>,
     form: ScanForm,
     source: Result<Vec<u8>, ReadFault>,
@@ -72,18 +72,12 @@ fn print_directives<O: ByteSink>(
                 form,
                 out,
             );
-            (
-                end_of(alloc, ended, Vec::new(alloc), &[], "", Hindrance::Other),
-                out,
-            )
+            (end_of(alloc, ended, Vec::new(alloc), &[], ""), out)
         }
         // Standard input is no file: what is too long is refused, as a source that is handed in.
         Err(ReadFault::TooLong) if path.is_none() => {
             let (ended, out) = run_scan_too_long(alloc, form, out);
-            (
-                end_of(alloc, ended, Vec::new(alloc), &[], "", Hindrance::Other),
-                out,
-            )
+            (end_of(alloc, ended, Vec::new(alloc), &[], ""), out)
         }
         Err(fault) => (Err(unread(alloc, fault, name)), out),
     }

@@ -629,26 +629,31 @@ treated-agrees r q d again h i keeps meter c es cs spelled hides same (IsCall m 
     (calls-agree 0 (behind_tokens 1 es) (drop 1 cs) (spelled-drop Gnu 1 cs spelled) (same-behind 1 es cs same)) body.0 (spelled-call Gnu 0 (drop 1 cs) (spelled-drop Gnu 1 cs spelled))
     ∙ ap (λ ts. bares (called ByContexts d again c meter m p (call_behind 0 ts))) (sym shape.1)
 
-level-agrees : (s : Surroundings) → HasSpelledBodies Gnu s.table → HasLiterals s.place → rule_in s ≡ ByContexts → (r : Reader) (d : Expander) → Agree r d → Keeps Gnu d → (steps : ℕ) →
+-- the rule of the language treats each token of a list as that by contexts
+abbrev pub IsAlike : Surroundings → Type 0
+IsAlike s = (d again : Expander) (meter : Meter) (c : Carrier) (cs : List Carrier) →
+    treated (rule_in s) d again c meter cs (case_of s c cs) ≡ treated ByContexts d again c meter cs (case_of s c cs)
+
+level-agrees : (s : Surroundings) → HasSpelledBodies Gnu s.table → HasLiterals s.place → IsAlike s → (r : Reader) (d : Expander) → Agree r d → Keeps Gnu d → (steps : ℕ) →
     Agree (level_read s r steps) (level s d steps)
 unfolding Agree
-level-agrees s b l e r d h keeps zero meter es cs k same = refl
-level-agrees s b l e r d h keeps (suc steps) meter es [] k same = ap (token_read s r (level_read s r steps) meter) (next-none es same)
-level-agrees s b l e r d h keeps (suc steps) meter es (c ∷ cs) k same =
+level-agrees s b l alike r d h keeps zero meter es cs k same = refl
+level-agrees s b l alike r d h keeps (suc steps) meter es [] k same = ap (token_read s r (level_read s r steps) meter) (next-none es same)
+level-agrees s b l alike r d h keeps (suc steps) meter es (c ∷ cs) k same =
     let n = next-some es c cs same in
     ap (token_read s r (level_read s r steps) meter) n.is
     ∙ ap (λ ts. case_read r (level_read s r steps) (bare c) meter n.rest (case_of s (bare c) ts)) (same-read n.rest cs n.same)
     ∙ ap (case_read r (level_read s r steps) (bare c) meter n.rest) (case-bare s c cs)
-    ∙ treated-agrees r (level_read s r steps) d (level s d steps) h (level-agrees s b l e r d h keeps steps) keeps meter c n.rest cs k.1 n.hides n.same (case_of s c cs)
+    ∙ treated-agrees r (level_read s r steps) d (level s d steps) h (level-agrees s b l alike r d h keeps steps) keeps meter c n.rest cs k.1 n.hides n.same (case_of s c cs)
     (case-shape s c cs) (case-spelled Gnu s c cs b l k.0 k.1)
-    ∙ ap (λ rule. bares (treated rule d (level s d steps) c meter cs (case_of s c cs))) (sym e)
+    ∙ ap bares (sym (alike d (level s d steps) meter c cs))
 
-levels-agree : (s : Surroundings) → HasSpelledBodies Gnu s.table → HasLiterals s.place → rule_in s ≡ ByContexts → (n : ℕ) → Agree (levels_read s n) (levels s n)
+levels-agree : (s : Surroundings) → HasSpelledBodies Gnu s.table → HasLiterals s.place → IsSpoken (rule_in s) Gnu → IsAlike s → (n : ℕ) → Agree (levels_read s n) (levels s n)
 unfolding Agree
-levels-agree s b l e zero meter es cs k same = refl
-levels-agree s b l e (suc n) meter es cs k same =
+levels-agree s b l o alike zero meter es cs k same = refl
+levels-agree s b l o alike (suc n) meter es cs k same =
     ap (λ m. level_read s (levels_read s n) (m + meter.units + 1) meter es) (ap length (same-read es cs same) ∙ length-map cs bare)
-    ∙ level-agrees s b l e (levels_read s n) (levels s n) (levels-agree s b l e n) (levels-keep Gnu s (subst (λ (r : Rule). IsSpoken r Gnu) (sym e) tt) b l n) (length cs + meter.units + 1) meter es cs k same
+    ∙ level-agrees s b l alike (levels_read s n) (levels s n) (levels-agree s b l o alike n) (levels-keep Gnu s o b l n) (length cs + meter.units + 1) meter es cs k same
 
 ---- the list that is handed in, and the items
 
@@ -671,12 +676,12 @@ source-same (t ∷ ts) = (
     twice true = refl
     twice false = refl
 
-pub expansion-agrees : (s : Surroundings) (meter : Meter) (tokens : List Tok) → s.table.language ≡ Gnu → HasSpelledBodies Gnu s.table → HasLiterals s.place → list_all (is_spelled Gnu) tokens ≡ true →
+pub expansion-alike : (s : Surroundings) (meter : Meter) (tokens : List Tok) → IsSpoken (rule_in s) Gnu → IsAlike s → HasSpelledBodies Gnu s.table → HasLiterals s.place → list_all (is_spelled Gnu) tokens ≡ true →
     expansion s meter tokens ≡ expansion_read s meter tokens
 unfolding Agree
-expansion-agrees s meter tokens e b l h =
+expansion-alike s meter tokens o alike b l h =
     sym (ap seen
-    (levels-agree s b l (ap rule_of e) all_levels meter (entries (map of_source tokens)) (map of_source tokens) (source-spelled Gnu tokens h) (source-same tokens))
+    (levels-agree s b l o alike all_levels meter (entries (map of_source tokens)) (map of_source tokens) (source-spelled Gnu tokens h) (source-same tokens))
     ∙ by (levels s all_levels meter (map of_source tokens)))
   where
     seen : Result (List Carrier × Meter) ExpandFault → Result (List Item × Meter) ExpandFault
@@ -689,3 +694,10 @@ expansion-agrees s meter tokens e b l h =
     by : (r : Result (List Carrier × Meter) ExpandFault) → seen (bares r) ≡ seen r
     by (Ok x) = ap (λ is. Ok (is, x.1)) (items x.0)
     by (Err fault) = refl
+
+pub expansion-agrees : (s : Surroundings) (meter : Meter) (tokens : List Tok) → s.table.language ≡ Gnu → HasSpelledBodies Gnu s.table → HasLiterals s.place → list_all (is_spelled Gnu) tokens ≡ true →
+    expansion s meter tokens ≡ expansion_read s meter tokens
+expansion-agrees s meter tokens e b l h =
+    let by : rule_in s ≡ ByContexts = ap rule_of e in
+    expansion-alike s meter tokens (subst (λ (r : Rule). IsSpoken r Gnu) (sym by) tt)
+    (λ d again m c cs. ap (λ rule. treated rule d again c m cs (case_of s c cs)) by) b l h

@@ -39,3 +39,4 @@ pub mod UndefinedNames
 pub mod ContextSteps
 pub mod HiddenNames
 pub mod ContextsAgree
+pub mod PlainTables

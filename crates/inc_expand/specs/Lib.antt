@@ -15,6 +15,7 @@ pub mod Substitutions
 pub mod Items
 pub mod Puts
 pub mod Plain
+pub mod PlainTables
 pub mod Cases
 pub mod Walks
 pub mod Frames

@@ -8,6 +8,7 @@ ghost use Rattle.inc_token.specs.TokenLines.{Tok};
 ghost use Rattle.inc_expand.specs.Expansion.{Meter, Surroundings, expansion, predefined, of_source, item_of};
 ghost use Rattle.inc_expand.specs.Contexts.{expansion_read};
 ghost use Rattle.inc_expand.specs.declared.faults.ExpandFault.TheVariants.{NoMemory};
+ghost use Rattle.inc_expand.specs.PlainTables.{HasPlainMacros};
 ghost use Rattle.inc_expand.specs.SpelledItems.{is_spelled_item, HasLiterals, HasSpelledBodies};
 
 /// An expansion never leaves more work units than it got.
@@ -42,6 +43,14 @@ pub fn items_lie_in_their_classes()
 /// list of tokens, where the tokens and the bodies lie in their classes.
 pub fn names_are_hidden_as_by_gcc()
     ensures { (s : Surroundings) (meter : Meter) (tokens : List Tok) → s.table.language ≡ Gnu →
+        HasSpelledBodies Gnu s.table → HasLiterals s.place → IsTrue (list_all (is_spelled Gnu) tokens) →
+        expansion s meter tokens ≡ expansion_read s meter tokens }
+{}
+
+/// Where no macro takes arguments, and no body has `#` or `##`, that is so in each language: what C17 leaves open (6.10.3.4), and where the
+/// languages part, is open with calls and pastes alone.
+pub fn names_without_arguments_are_hidden_as_by_gcc()
+    ensures { (s : Surroundings) (meter : Meter) (tokens : List Tok) → HasPlainMacros s.table →
         HasSpelledBodies Gnu s.table → HasLiterals s.place → IsTrue (list_all (is_spelled Gnu) tokens) →
         expansion s meter tokens ≡ expansion_read s meter tokens }
 {}

@@ -1,7 +1,11 @@
 -- What the program reports of a failure: a line on standard error, and the exit status.
-use Rattle.std.specs.Prelude.{◌≡◌, ℕ, ◌+◌, ◌/◌, ◌%◌, ◌==◌, ◌&&◌, not, Bool, List, [], ◌∷◌, ◌++◌, if◌then◌else◌, slice_index_or, codes, decimal, flat_map, nat_lt}
+use Rattle.std.specs.Prelude.{◌≡◌, ℕ, ◌+◌, ◌/◌, ◌%◌, ◌==◌, ◌&&◌, not, Bool, List, [], ◌∷◌, ◌++◌, if◌then◌else◌, slice_index_or, codes, decimal, flat_map, is_none, length, nat_lt}
+use Rattle.std.specs.List.{list_any}
+use Rattle.inc_lookup.specs.Paths.{normal_form}
+use Rattle.inc_lookup.specs.declared.listings.TheConstants.{LONGEST_PATH}
 use Rattle.inc_lookup.specs.declared.projects.ProjectFault.{ProjectFault}
 use Rattle.inc_lookup.specs.declared.projects.ProjectFault.TheVariants as project
+use Rattle.inc_text.specs.Ascii.{line_feed, nul}
 use Rattle.inc_text.specs.declared.devices.ReadFault.{ReadFault}
 use Rattle.inc_text.specs.declared.devices.ReadFault.TheVariants as read
 use Rattle.inc_check.specs.declared.read_texts.CertFault.{CertFault}
@@ -37,15 +41,6 @@ about_path text path status = record { message = text ++ path; status = status }
 abbrev pub cannot_read : List ℕ → Report
 cannot_read path = about_path (codes "cannot read ") path 3
 
--- what stood in the way of a file, after its path
-abbrev pub hindrance_text : Hindrance → List ℕ
-hindrance_text hindrance.Other = []
-hindrance_text hindrance.Link = codes ": is a link"
-hindrance_text hindrance.NoRegularFile = codes ": is not a regular file"
-
-abbrev pub cannot_read_for : Hindrance → (path : List ℕ) → Report
-cannot_read_for h path = cannot_read (path ++ hindrance_text h)
-
 abbrev pub file_too_long : List ℕ → Report
 file_too_long path = about_path (codes "file too long: ") path 4
 
@@ -64,7 +59,7 @@ abbrev pub malformed_compiler : (at : List ℕ) → Report
 malformed_compiler at = about_path (codes "malformed compiler: line ") at 4
 
 abbrev pub too_many_files : Report
-too_many_files = record { message = codes "too many files"; status = 4 }
+too_many_files = record { message = codes "too many files: the most is 65535"; status = 4 }
 
 abbrev pub cannot_write : Report
 cannot_write = record { message = codes "cannot write"; status = 3 }
@@ -236,9 +231,33 @@ report_of (failure.MalformedRules text) = record { message = text.items; status 
 report_of failure.NoSubject = no_subject
 report_of failure.NoMemory = out_of_memory
 
--- the line on standard error
-abbrev pub report_line : Report → List ℕ
-report_line r = codes "incut: " ++ r.message ++ 10 ∷ []
+-- what stood in the way of a file, as it is reported behind its path
+abbrev pub hindrance_name : Hindrance → List ℕ
+hindrance_name hindrance.Other = []
+hindrance_name hindrance.Link = codes ": is a link"
+hindrance_name hindrance.NoRegularFile = codes ": is not a regular file"
+hindrance_name hindrance.Missing = codes ": no such file"
+hindrance_name hindrance.Folder = codes ": is a folder"
+hindrance_name hindrance.NoFolder = codes ": is not a folder"
+hindrance_name hindrance.Denied = codes ": permission denied"
+hindrance_name hindrance.Full = codes ": no space left"
+hindrance_name (hindrance.Fault n) = codes ": error "
+
+-- the number of a fault of the system
+abbrev pub hindrance_number : Hindrance → List ℕ
+hindrance_number (hindrance.Fault n) = decimal n
+hindrance_number h = []
+
+-- nothing else is hindered than what cannot be read or written
+abbrev pub hindrance_of : Hindrance → Report → Hindrance
+hindrance_of h r = if r.status == 3 then h else hindrance.Other
+
+abbrev pub hindrance_text : Hindrance → List ℕ
+hindrance_text h = hindrance_name h ++ hindrance_number h
+
+-- the line on standard error, by what stood in the way of what is read or written
+abbrev pub report_line : Hindrance → Report → List ℕ
+report_line h r = codes "incut: " ++ ((r.message ++ hindrance_text (hindrance_of h r)) ++ 10 ∷ [])
 
 -- the line of a note beside an answer
 abbrev pub note_line : List ℕ → List ℕ
@@ -277,9 +296,20 @@ IsReportBy report IsMalformedAt path r =
 abbrev pub IsListReport : (IsMalformedAt : ℕ → Type 0) → (path : List ℕ) → Report → Type 0
 IsListReport IsMalformedAt path r = IsReportBy list_report IsMalformedAt path r
 
+-- why a path makes no project
+abbrev pub bad_path_reason : (path : List ℕ) → List ℕ
+bad_path_reason path =
+    if list_any (λ b. b == nul) path then codes ": holds NUL (try -0)" else
+    if list_any (λ b. b == line_feed) path then codes ": holds a line feed" else
+    if nat_lt LONGEST_PATH (length path) then codes ": longer than 4096 bytes" else
+    if is_none (normal_form path) then codes ": climbs above the folder of the run" else codes ": names a folder"
+
+abbrev pub bad_path_at : (path : List ℕ) → Report
+bad_path_at path = bad_path (shown path ++ bad_path_reason path)
+
 -- what is reported of paths and directories that make no project, the paths first; of two equal paths the second
 abbrev pub project_report : ProjectFault → (written : List (List ℕ)) → Report
 project_report project.TooManyFiles written = too_many_files
-project_report (project.BadPath i) written = bad_path (shown (slice_index_or written i []))
+project_report (project.BadPath i) written = bad_path_at (slice_index_or written i [])
 project_report (project.SamePath first second) written = same_path (shown (slice_index_or written second []))
 project_report project.NoMemory written = out_of_memory

@@ -1,7 +1,7 @@
 //! Baselines: directives that may still break rules.
 ghost use Rattle.std.specs.Prelude.{◌≡◌, ◌<◌, ◌++◌, ◌-◌, ◌==◌, ℕ, Err, Ok, IfErr, IfOk, OnOk, length, map, option_map};
 ghost use Rattle.inc_check.specs.declared.read_texts.CertFault.TheVariants as fault;
-ghost use Rattle.inc_inputs.specs.BuildNotes.{none, whole};
+ghost use Rattle.inc_inputs.specs.BuildNotes.{none};
 ghost use Rattle.inc_inputs.specs.Baselines as spec;
 ghost use Rattle.inc_inputs.specs.Baselines.{Accepting, NamedLines, accepted, accepted_by, accepting_by, baseline_title, is_passed, named_from, named_line, named_of, no_baseline, removed_line, removed_notes, unused_line, with_accepted, with_found, with_more, with_text};
 ghost use Rattle.inc_inputs.specs.MarkLists.{lines_of};

@@ -1,5 +1,5 @@
 //! Which entries of a compilation database a question is about.
-ghost use Rattle.std.specs.Prelude.{◌≡◌, ◌≢◌, ◌++◌, ◌∷◌, ℕ, List, [], Some, Err, Ok, IfOk, OnOk, length, map, slice_get};
+ghost use Rattle.std.specs.Prelude.{◌≡◌, ◌≢◌, ◌++◌, ◌∷◌, ℕ, List, [], Some, Err, Ok, IfOk, OnOk, length, slice_get};
 ghost use Rattle.inc_globs.specs.Globs.{pieces};
 ghost use Rattle.inc_inputs.specs.BuildProjects as spec;
 ghost use Rattle.inc_inputs.specs.Reports.{out_of_memory};

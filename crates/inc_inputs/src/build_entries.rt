@@ -1,5 +1,5 @@
 //! What the entries that count ask for: include paths, macros, and nothing that is not supported.
-ghost use Rattle.std.specs.Prelude.{◌≡◌, ◌≢◌, ℕ, List, [], Some, Err, IfOk, OnOk, suc, bytes_eq, get_or, map, option_map, slice_get, unwrap_or};
+ghost use Rattle.std.specs.Prelude.{◌≡◌, ◌≢◌, ℕ, List, [], Some, Err, IfOk, OnOk, suc, bytes_eq, map, option_map, slice_get, unwrap_or};
 ghost use Rattle.std.specs.Map.{lookup};
 ghost use Rattle.inc_build.specs.Builds.{with_name};
 ghost use Rattle.inc_build.specs.Views.{seen_item, seen_row};

@@ -1,5 +1,5 @@
 //! The project that a question with a build is about, and the words that stand in place of those of the question.
-ghost use Rattle.std.specs.Prelude.{◌≡◌, ◌≢◌, ◌++◌, [], ◌∷◌, List, None, Some, Err, Ok, false, true, IfErr, IfOk, OnOk, map, option_map};
+ghost use Rattle.std.specs.Prelude.{◌≡◌, ◌≢◌, ◌++◌, [], ◌∷◌, None, Some, Err, Ok, false, true, IfErr, IfOk, OnOk, map, option_map};
 ghost use Rattle.inc_args.specs.Views.{seen_files, seen_pp, seen_question};
 ghost use Rattle.inc_inputs.specs.BuildProjects as spec;
 ghost use Rattle.inc_inputs.specs.BuildReports.{skipped_line, some_lines};

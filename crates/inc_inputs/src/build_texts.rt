@@ -1,5 +1,5 @@
 //! What is reported and noted of a build.
-ghost use Rattle.std.specs.Prelude.{◌≡◌, ◌≢◌, ◌++◌, List, ℕ, suc, IfOk, OnOk, codes, decimal, get_or, map, nat_lt};
+ghost use Rattle.std.specs.Prelude.{◌≡◌, ◌≢◌, ◌++◌, List, ℕ, suc, IfOk, OnOk, codes, decimal, map, nat_lt};
 ghost use Rattle.inc_build.specs.Views.{seen_entry};
 ghost use Rattle.inc_inputs.specs.BuildNotes as kept;
 ghost use Rattle.inc_inputs.specs.BuildProjects.{file_at};

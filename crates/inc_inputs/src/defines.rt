@@ -1,10 +1,10 @@
 //! Lists of definitions, as compilers print them.
-ghost use Rattle.std.specs.Prelude.{◌≡◌, ◌≤◌, ◌+◌, ◌==◌, ◌++◌, not, ℕ, Ok, Err, IfSome, map, drop, length, position, slice_index, option_map, filter_map, IfOk, IfErr, OnOk};
-ghost use Rattle.std.specs.List.{list_any, prefix_len};
+ghost use Rattle.std.specs.Prelude.{◌≡◌, ◌≤◌, ◌+◌, ◌==◌, ◌++◌, not, ℕ, Ok, Err, IfSome, map, drop, length, slice_index, option_map, filter_map, IfOk, IfErr, OnOk};
+ghost use Rattle.std.specs.List.{list_any};
 ghost use Rattle.inc_check.specs.declared.read_texts.CertFault.TheVariants as fault;
 ghost use Rattle.inc_inputs.specs.Defines.{name_len, parameters_len, head_len, HasHead, begins_body, is_head, begins_definition, definition_in, word_of, words_for, words_in, defined_words, described_dirs, dir_in, names_dir, IsTaken};
 ghost use Rattle.inc_macro.specs.Tables.{table_of};
-ghost use Rattle.inc_text.specs.Ascii.{equals, line_feed, open_parenthesis};
+ghost use Rattle.inc_text.specs.Ascii.{equals, open_parenthesis};
 
 use crate::file_lists::{PathEnd, first_end, list_paths, without_return};
 use crate::questions::{begins_answer, close_len, push_answer};

@@ -1,34 +1,64 @@
 //! Why the program gives no answer, and what it reports of that.
-ghost use Rattle.std.specs.Prelude.{◌≡◌, ◌≢◌, ◌<◌, ◌++◌, [], IfOk, OnOk, map, slice_index_or, codes, decimal};
-ghost use Rattle.inc_inputs.specs.Reports.{about_option, bad_glob, baseline_report, fits_none, hex_digit, hindrance_text, malformed_baseline, malformed_rules, no_directive, no_line, no_name, out_of_memory, report_of, read_report, list_report, compiler_report, definitions_report, project_report, several_headers, shown, shown_byte};
+ghost use Rattle.std.specs.Prelude.{◌≡◌, ◌≢◌, ◌<◌, ◌++◌, ◌==◌, [], IfOk, OnOk, map, slice_index_or, codes, decimal};
+ghost use Rattle.std.specs.List.{list_any};
+ghost use Rattle.inc_text.specs.Ascii.{line_feed, nul};
+ghost use Rattle.inc_inputs.specs.Reports.{about_option, bad_glob, bad_path_reason, baseline_report, fits_none, hex_digit, hindrance_name, hindrance_number, hindrance_of, malformed_baseline, malformed_rules, no_directive, no_line, no_name, out_of_memory, report_of, read_report, list_report, compiler_report, definitions_report, project_report, several_headers, shown, shown_byte};
 
 use inc_check::CertFault;
-use inc_lookup::ProjectFault;
+use inc_lookup::{LONGEST_PATH, ProjectFault, normalise};
 use inc_rules::{FaultKind, fault_words};
 use inc_text::ReadFault;
 use itoa::Buffer;
 use std::alloc::{AllocError, AllocFailed, Global};
 
-/// What stood in the way of a file of the list that could not be read.
+/// What stood in the way of what could not be read or written.
 #[derive(Clone, Copy, Debug, PartialEq, Eq)]
 pub enum Hindrance {
-    /// The system, or nothing that is known.
+    /// Nothing that is known.
     Other,
-    /// A link on the way to it, or the file is one.
+    /// A link on the way to a file of the list, or the file is one.
     Link,
-    /// It is a device, a pipe or a directory.
+    /// A file of the list is a device, a pipe or a folder.
     NoRegularFile,
+    /// No file is there.
+    Missing,
+    /// It is a folder.
+    Folder,
+    /// It is none, or what its path takes for one is none.
+    NoFolder,
+    /// The system does not permit it.
+    Denied,
+    /// No space is left.
+    Full,
+    /// Another fault, by the number that the system gives it.
+    Fault(u32),
 }
 
 impl Hindrance {
-    /// What is reported of it after the path.
-    pub fn text(self) -> &'static [u8]
-        ensures { result.now ≡ hindrance_text self }
+    /// What is reported of it after a path, but for its number.
+    pub fn name(self) -> &'static [u8]
+        ensures { result.now ≡ hindrance_name self }
     {
         match self {
             Hindrance::Other => b"",
             Hindrance::Link => b": is a link",
             Hindrance::NoRegularFile => b": is not a regular file",
+            Hindrance::Missing => b": no such file",
+            Hindrance::Folder => b": is a folder",
+            Hindrance::NoFolder => b": is not a folder",
+            Hindrance::Denied => b": permission denied",
+            Hindrance::Full => b": no space left",
+            Hindrance::Fault(_) => b": error ",
+        }
+    }
+
+    /// The number of a fault of the system in decimal, of others nothing.
+    pub fn number(self, digits: &mut Buffer) -> &[u8]
+        ensures { result.now ≡ hindrance_number self }
+    {
+        match self {
+            Hindrance::Fault(number) => digits.format(number).as_bytes(),
+            _ => b"",
         }
     }
 }
@@ -38,7 +68,7 @@ impl Hindrance {
 pub enum Failure {
     /// An argument is not UTF-8.
     NotUtf8,
-    /// A file, or standard input under the name `-`, cannot be read. What stood in its way may follow.
+    /// A file, or standard input under the name `-`, cannot be read.
     CannotRead(Vec<u8>),
     /// Standard output cannot be written.
     CannotWrite,
@@ -402,12 +432,55 @@ pub fn project_failure(
 {
     Ok(match fault {
         ProjectFault::TooManyFiles => Failure::TooManyFiles,
-        ProjectFault::BadPath { index } => Failure::BadPath(written(alloc, index, paths, dirs)?),
+        ProjectFault::BadPath { index } => {
+            Failure::BadPath(bad_path(alloc, given(index, paths, dirs))?)
+        }
         ProjectFault::SamePath { second, .. } => {
             Failure::SamePath(written(alloc, second, paths, dirs)?)
         }
         ProjectFault::NoMemory => Failure::NoMemory,
     })
+}
+
+/// A path that makes no project, and why.
+fn bad_path(alloc: Global, path: &[u8]) -> Result<Vec<u8>, AllocError>
+    ensures { IfOk result (λ text. text.items ≡ shown path.now ++ bad_path_reason path.now) }
+{
+    let reason = bad_path_reason(alloc, path)?;
+    let mut text = shown(alloc, path)?;
+    text.extend_from_slice(reason)?;
+    Ok(text)
+}
+
+/// Why a path makes no project.
+fn bad_path_reason(alloc: Global, path: &[u8]) -> Result<&'static [u8], AllocError>
+    ensures { IfOk result (λ reason. reason.now ≡ bad_path_reason path.now) }
+{
+    if holds_nul(path) {
+        return Ok(b": holds NUL (try -0)");
+    }
+    if holds_line_feed(path) {
+        return Ok(b": holds a line feed");
+    }
+    if path.len() > LONGEST_PATH {
+        return Ok(b": longer than 4096 bytes");
+    }
+    match normalise(alloc, path)? {
+        None => Ok(b": climbs above the folder of the run"),
+        Some(_) => Ok(b": names a folder"),
+    }
+}
+
+fn holds_nul(path: &[u8]) -> bool
+    ensures { result ≡ list_any (λ b. b == nul) path.now }
+{
+    path.iter().any(|b| *b == 0)
+}
+
+fn holds_line_feed(path: &[u8]) -> bool
+    ensures { result ≡ list_any (λ b. b == line_feed) path.now }
+{
+    path.iter().any(|b| *b == b'\n')
 }
 
 /// The path at a place, as it was written, but on one line: those of the files come first, and then the directories.
@@ -420,12 +493,19 @@ pub fn written(
     ensures { IfOk result (λ path. path.items ≡
         shown (slice_index_or (map (λ p. p.now) paths.now ++ map (λ d. d.now) dirs.now) index [])) }
 {
+    shown(alloc, given(index, paths, dirs))
+}
+
+/// The path at a place.
+fn given<'p>(index: usize, paths: &[&'p [u8]], dirs: &[&'p [u8]]) -> &'p [u8]
+    ensures { result.now ≡ slice_index_or (map (λ p. p.now) paths.now ++ map (λ d. d.now) dirs.now) index [] }
+{
     if index < paths.len() {
-        return shown(alloc, paths[index]);
+        return paths[index];
     }
     match dirs.get(index - paths.len()) {
-        Some(dir) => shown(alloc, dir),
-        None => Ok(Vec::new(alloc)),
+        Some(dir) => dir,
+        None => &[],
     }
 }
 
@@ -481,7 +561,7 @@ impl Failure {
             Failure::CannotWrite => (b"cannot write", b""),
             Failure::CannotWriteFile(name) => (b"cannot write ", name),
             Failure::FileTooLong(path) => (b"file too long: ", path),
-            Failure::TooManyFiles => (b"too many files", b""),
+            Failure::TooManyFiles => (b"too many files: the most is 65535", b""),
             Failure::BadPath(path) => (b"bad path: ", path),
             Failure::SamePath(path) => (b"same path twice: ", path),
             Failure::MalformedList(at) => (b"malformed list: line ", at),
@@ -520,6 +600,17 @@ impl Failure {
             Failure::SeveralHeaders(text) => (b"several files end in ", text),
             Failure::NoSourceLeft => (b"each file of --from is one of --to", b""),
             Failure::NoMemory => (b"out of memory", b""),
+        }
+    }
+
+    /// What stood in the way, where it is that something cannot be read or written.
+    pub fn hindrance(&self, hindrance: Hindrance) -> Hindrance
+        ensures { result ≡ hindrance_of hindrance (report_of self.now) }
+    {
+        if self.status() == 3 {
+            hindrance
+        } else {
+            Hindrance::Other
         }
     }
 

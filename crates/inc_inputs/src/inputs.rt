@@ -1,5 +1,5 @@
 //! What a run reads, and the files that it writes.
-ghost use Rattle.std.specs.Prelude.{◌≡◌, ◌≤◌, ℕ, Bool, List, Option, Result, Some, map, vec_len, is_ok, IfOk};
+ghost use Rattle.std.specs.Prelude.{◌≡◌, ◌≤◌, ℕ, Bool, List, Result, Some, map, vec_len, is_ok, IfOk};
 ghost use Rattle.inc_text.specs.declared.devices.TheConstants.{LONGEST_FILE};
 ghost use Rattle.inc_text.specs.declared.devices.ReadFault.{ReadFault};
 ghost use Rattle.inc_lookup.specs.Views.{seen_answer};

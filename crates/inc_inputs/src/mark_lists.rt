@@ -1,6 +1,6 @@
 //! Lists of directives, as the answers, `grep -n` and compilers print them.
-ghost use Rattle.std.specs.Prelude.{◌≡◌, ◌==◌, ℕ, Ok, Err, None, take, drop, length, position, IfOk, IfErr, codes};
-ghost use Rattle.inc_check.specs.Reading.{front_digits, listed_mark, mark_with, number_in, placed_mark};
+ghost use Rattle.std.specs.Prelude.{◌≡◌, ◌==◌, ℕ, Ok, Err, None, take, position, IfOk, IfErr};
+ghost use Rattle.inc_check.specs.Reading.{listed_mark, number_in, placed_mark};
 ghost use Rattle.inc_check.specs.declared.read_texts.CertFault.TheVariants as fault;
 ghost use Rattle.inc_inputs.specs.MarkLists.{first_line, first_marks, lines_of, marks_from, marks_in};
 ghost use Rattle.inc_text.specs.Ascii.{line_feed};

@@ -1,5 +1,5 @@
 //! What the words of `--drop` and `--keep` name in the files of a project.
-ghost use Rattle.std.specs.Prelude.{◌≡◌, ◌<◌, ◌≤◌, ◌&&◌, ◌++◌, ℕ, List, Some, IfOk, IfSome, OnOk, drop, false, filter_map, length, map, option_map, slice_get};
+ghost use Rattle.std.specs.Prelude.{◌≡◌, ◌<◌, ◌≤◌, ◌&&◌, ◌++◌, List, Some, IfOk, IfSome, OnOk, drop, false, filter_map, length, map, option_map, slice_get};
 ghost use Rattle.inc_args.specs.Views.{seen_limits, seen_question};
 ghost use Rattle.inc_check.specs.Reading.{mark_with};
 ghost use Rattle.inc_directive.specs.Groups.{FileLine};

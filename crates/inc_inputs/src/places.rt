@@ -1,14 +1,14 @@
 //! What the words of `--drop`, `--keep` and `--only` come to in a project.
-ghost use Rattle.std.specs.Prelude.{◌≡◌, ◌≢◌, ◌<◌, ◌==◌, ◌&&◌, ◌||◌, ◌∷◌, ◌++◌, [], ℕ, List, Err, Ok, IfErr, IfOk, IfSome, OnOk, drop, false, filter, filter_map, is_none, is_some, length, map, nat_lt, not, slice_index_or, take};
+ghost use Rattle.std.specs.Prelude.{◌≡◌, ◌≢◌, ◌<◌, ◌==◌, ◌&&◌, ◌||◌, ◌∷◌, ◌++◌, [], ℕ, List, Err, Ok, IfErr, IfOk, OnOk, drop, false, filter_map, is_none, is_some, length, map, not, slice_index_or};
 ghost use Rattle.std.specs.List.{range_with_len};
 ghost use Rattle.inc_args.specs.Views.{seen_limits, seen_question};
 ghost use Rattle.inc_check.specs.Reading.{mark_with, number_in};
 ghost use Rattle.inc_graph.specs.FileSets.{AreFlags};
 ghost use Rattle.inc_graph.specs.Marks as spec;
 ghost use Rattle.inc_graph.specs.Members.{is_member};
-ghost use Rattle.inc_inputs.specs.Ends.{is_empty, option_of};
+ghost use Rattle.inc_inputs.specs.Ends.{is_empty};
 ghost use Rattle.inc_inputs.specs.PlaceWords.{line_colon, name_colon};
-ghost use Rattle.inc_inputs.specs.Places.{kept_files, kept_flags, line_marks, marks_behind, marks_by, places_of, some_marks, whole_words, word_marks, words_marks};
+ghost use Rattle.inc_inputs.specs.Places.{kept_files, kept_flags, marks_behind, marks_by, places_of, some_marks, whole_words, word_marks, words_marks};
 ghost use Rattle.inc_inputs.specs.Reports.{out_of_memory, report_of};
 ghost use Rattle.inc_inputs.specs.Views.{seen_flags, seen_marks, seen_places};
 

@@ -1,11 +1,11 @@
 //! The rules that words give, and the files that they are about.
 ghost use Rattle.std.specs.Prelude.{◌≡◌, ◌≢◌, ◌++◌, ◌∷◌, [], Ok, Err, map, option_map, IfErr, IfOk, OnOk};
 ghost use Rattle.inc_args.specs.Views.{seen_rules};
-ghost use Rattle.inc_inputs.specs.Reports.{malformed_rules, out_of_memory, report_of};
-ghost use Rattle.inc_inputs.specs.RuleLists.{AreRules, lines_of_words, rule_ends, rule_name, rule_text, some_subjects, words_report};
+ghost use Rattle.inc_inputs.specs.Reports.{out_of_memory, report_of};
+ghost use Rattle.inc_inputs.specs.RuleLists.{AreRules, lines_of_words, rule_ends, rule_name, rule_text, words_report};
 ghost use Rattle.inc_inputs.specs.RuleNotes.{ends_unless, first_of, rule_notes, strict_ends, unfit_lines};
 ghost use Rattle.inc_inputs.specs.Steps.{Comes};
-ghost use Rattle.inc_inputs.specs.Views.{end_paths_in, seen_ends, seen_text};
+ghost use Rattle.inc_inputs.specs.Views.{seen_ends, seen_text};
 ghost use Rattle.inc_rules.specs.Rules.{rules_of};
 ghost use Rattle.inc_rules.specs.Views.{seen_rule};
 

@@ -1,7 +1,6 @@
 //! Notes of rules whose globs fit no file of the project.
 ghost use Rattle.std.specs.Prelude.{◌≡◌, flat_map, map, option_map, IfOk, OnOk};
 ghost use Rattle.inc_inputs.specs.BuildNotes.{none, with_lines};
-ghost use Rattle.inc_inputs.specs.HeaderNames.{fitting};
 ghost use Rattle.inc_inputs.specs.RuleNotes.{first_of, rule_lines, rule_notes, side_lines, unfit_line, unfit_lines};
 ghost use Rattle.inc_inputs.specs.Views.{notes_in};
 ghost use Rattle.inc_rules.specs.Views.{seen_rule};

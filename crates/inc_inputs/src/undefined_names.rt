@@ -1,5 +1,5 @@
 //! Names that a build may leave undefined.
-ghost use Rattle.std.specs.Prelude.{◌≡◌, ◌≢◌, IfOk, IfSome, MatchOption, None, Some, map};
+ghost use Rattle.std.specs.Prelude.{◌≡◌, ◌≢◌, IfOk, MatchOption, None, Some, map};
 ghost use Rattle.inc_token.specs.Spellings.{class_of};
 ghost use Rattle.inc_inputs.specs.Reports.{out_of_memory, report_of};
 ghost use Rattle.inc_inputs.specs.UndefinedNames.{is_identifier, name_report, names_report};

@@ -17,34 +17,35 @@ use Rattle.inc_graph.specs.Cuts.{directives_of}
 use Rattle.inc_graph.specs.IncludeGraph.{Edge, Graph}
 use Rattle.inc_graph.specs.MissingLists.{Missing}
 use Rattle.inc_report.specs.BaselineText.{IsBaseline, IsBaselineBy, IsBaselineKept, IsBaselineOf, IsShown, IsShownAnyhow, IsStrictBaseline, baseline_line, beside_text, header_text, led_path, rules_form}
-use Rattle.inc_report.specs.DefinitionPlaces.{given_bytes, given_place, kept_place}
-use Rattle.inc_report.specs.DirectiveNames.{kept_kind, kind_of}
-use Rattle.inc_report.specs.Documents.{AreGraphKept}
-use Rattle.inc_report.specs.JsonAnswers.{about_subject, kept_about}
-use Rattle.inc_report.specs.JsonRefusals.{refusal_json}
-use Rattle.inc_report.specs.KeptFiles.{Fits, Kept, OfKept, keeps, kept_at}
-use Rattle.inc_report.specs.NamedReasons.{Sight}
-use Rattle.inc_report.specs.NamedText.{IsInAnyFormat, about, command_name, given_sight, kept_sight}
-use Rattle.inc_report.specs.Printed.{Printed, end_of, refused_for, with_baseline}
-use Rattle.inc_report.specs.Questions.{IsAnswerBy}
-use Rattle.inc_report.specs.Refusals.{NotFound}
+use Rattle.inc_answers.specs.DefinitionPlaces.{given_bytes, given_place, kept_place}
+use Rattle.inc_answers.specs.DirectiveNames.{kept_kind, kind_of}
+use Rattle.inc_answers.specs.Documents.{AreGraphKept}
+use Rattle.inc_answers.specs.JsonAnswers.{about_subject, kept_about}
+use Rattle.inc_answers.specs.JsonRefusals.{refusal_json}
+use Rattle.inc_answers.specs.KeptFiles.{Fits, Kept, OfKept, keeps, kept_at}
+use Rattle.inc_answers.specs.NamedReasons.{Sight}
+use Rattle.inc_report.specs.NamedText.{IsInAnyFormat, about, given_sight, kept_sight}
+use Rattle.inc_answers.specs.CommandNames.{command_name}
+use Rattle.inc_answers.specs.Printed.{Printed, end_of, refused_for, with_baseline}
+use Rattle.inc_answers.specs.Questions.{IsAnswerBy}
+use Rattle.inc_answers.specs.Refusals.{NotFound}
 use Rattle.inc_report.specs.RulesText.{rules_kind}
-use Rattle.inc_report.specs.Strictness.{not_found, stray_reasons, strays_of}
-use Rattle.inc_report.specs.Terms.{Question, RuleList}
-use Rattle.inc_report.specs.declared.kept_sources.KeptSources.{KeptSources}
-use Rattle.inc_report.specs.declared.named.Asked.TheVariants as asked
+use Rattle.inc_answers.specs.Strictness.{not_found, stray_reasons, strays_of}
+use Rattle.inc_answers.specs.Terms.{Question, RuleList}
+use Rattle.inc_answers.specs.declared.kept_sources.KeptSources.{KeptSources}
+use Rattle.inc_answers.specs.declared.asked.Asked.TheVariants as asked
 use Rattle.inc_report.specs.declared.named.Format.{Format}
 use Rattle.inc_report.specs.declared.named.Format.TheVariants.{Json}
 use Rattle.inc_report.specs.declared.named.NamedForm.{NamedForm}
-use Rattle.inc_report.specs.declared.outcome.EndKind.TheVariants.{Answered, Negative, Refused}
-use Rattle.inc_report.specs.declared.subjects.Subject.{Subject}
+use Rattle.inc_answers.specs.declared.outcome.EndKind.TheVariants.{Answered, Negative, Refused}
+use Rattle.inc_answers.specs.declared.subjects.Subject.{Subject}
 use Rattle.inc_rules.specs.Breaking.{lacking}
 use Rattle.inc_rules.specs.Judging.{Judged, is_broken}
-use Rattle.inc_report.proofs.DefinitionLemmas.{place_same}
+use Rattle.inc_answers.proofs.DefinitionLemmas.{place_same}
 use Rattle.inc_report.proofs.KeptLemmas.{fits_given, fits_unread, holds_inner, kept_is_given}
 use Rattle.inc_report.proofs.NamedLemmas.{answered_refused, as_object, as_text, format_same, kind_same, negative_refused, rules_same, strays_same}
-use Rattle.inc_report.proofs.QuestionLemmas.{answer_all}
-use Rattle.inc_report.proofs.StrictLemmas.{strays_all, unless_none, unless_some}
+use Rattle.inc_answers.proofs.QuestionLemmas.{answer_all}
+use Rattle.inc_answers.proofs.StrictLemmas.{strays_all, unless_none, unless_some}
 
 -- of sights that see the same it is the same
 shown_same : (format : Option Format) (q : Question) (kind : DirectiveId → LineKind) (a b : (name : List ℕ) → Option DirectiveId) → ((name : List ℕ) → a name ≡ b name)

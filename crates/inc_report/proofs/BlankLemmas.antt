@@ -18,32 +18,33 @@ use Rattle.inc_graph.specs.MarkedEdges.{amounts_by}
 use Rattle.inc_graph.proofs.ClosureWalks.{edge_in_text}
 use Rattle.inc_pp.specs.BlankedProjects.{blanked_listing}
 use Rattle.inc_report.specs.BlankHeadline.{ChangesHeadline, ChangesKeepHeadersOut}
-use Rattle.inc_report.specs.BlankText.{AreChangesOf}
-use Rattle.inc_report.specs.Changes.{Change, changes}
-use Rattle.inc_report.specs.CutText.{WithAmounts, marks_refusal}
+use Rattle.inc_answers.specs.BlankText.{AreChangesOf}
+use Rattle.inc_answers.specs.Changes.{Change, changes}
+use Rattle.inc_answers.specs.CutText.{WithAmounts, marks_refusal}
 use Rattle.inc_report.specs.Headline.{NeverReadAny, IsWhollyFixed}
-use Rattle.inc_report.specs.KeptFiles.{AreAllKept, Fits, OfKept, keeps, kept_at}
-use Rattle.inc_report.specs.Known.{IsKnown}
-use Rattle.inc_report.specs.Printed.{Printed, answered}
-use Rattle.inc_report.specs.Questions.{Answer, FailsAt, IsAnswerBy, unread_by}
-use Rattle.inc_report.specs.Strictness.{Strict, open_strays_of}
-use Rattle.inc_report.specs.Terms.{Question, Limits, named_directives, setting_in}
-use Rattle.inc_report.specs.Writing.{unread_of}
-use Rattle.inc_report.specs.declared.kept_sources.KeptSources.{KeptSources}
-use Rattle.inc_report.specs.declared.outcome.End.{End}
-use Rattle.inc_report.specs.declared.outcome.EndKind.TheVariants.{Answered, Negative}
-use Rattle.inc_report.specs.declared.outcome.RunFault.{RunFault}
-use Rattle.inc_report.specs.declared.outcome.RunFault.TheVariants as fault
-use Rattle.inc_report.specs.declared.questions.NoGraph.{NoGraph}
+use Rattle.inc_answers.specs.KeptFiles.{AreAllKept, Fits, OfKept, keeps, kept_at}
+use Rattle.inc_answers.specs.Known.{IsKnown}
+use Rattle.inc_answers.specs.Printed.{Printed, answered}
+use Rattle.inc_answers.specs.Questions.{Answer, FailsAt, IsAnswerBy, unread_by}
+use Rattle.inc_answers.specs.Strictness.{Strict, open_strays_of}
+use Rattle.inc_answers.specs.Terms.{Question, Limits, named_directives, setting_in}
+use Rattle.inc_answers.specs.Writing.{unread_of}
+use Rattle.inc_answers.specs.declared.kept_sources.KeptSources.{KeptSources}
+use Rattle.inc_answers.specs.declared.outcome.End.{End}
+use Rattle.inc_answers.specs.declared.outcome.EndKind.TheVariants.{Answered, Negative}
+use Rattle.inc_answers.specs.declared.outcome.RunFault.{RunFault}
+use Rattle.inc_answers.specs.declared.outcome.RunFault.TheVariants as fault
+use Rattle.inc_answers.specs.declared.questions.NoGraph.{NoGraph}
 use Rattle.inc_report.proofs.BlankedCuts.{blanked_cut_keeps_headers_out}
 use Rattle.inc_report.proofs.ChangedListings.{changed_is_blanked}
-use Rattle.inc_report.proofs.HeadlineLemmas.{IsTold, told_of, stated_yes, stated_no, unhindered_told, ends_apart, answered_negative, unless_told, wholly_fixed}
+use Rattle.inc_report.proofs.HeadlineLemmas.{ends_apart, answered_negative, wholly_fixed}
+use Rattle.inc_answers.proofs.StatedAnswers.{IsTold, told_of, stated_yes, stated_no, unhindered_told, unless_told}
 use Rattle.inc_report.proofs.KeptOut.{of_names_once}
-use Rattle.inc_report.proofs.InnerSources as inner
-use Rattle.inc_report.proofs.InnerSources.{unread_all}
+use Rattle.inc_answers.proofs.InnerSources as inner
+use Rattle.inc_answers.proofs.InnerSources.{unread_all}
 use Rattle.inc_report.proofs.KeptLemmas.{fits_given, fits_unread, holds_inner, kept_given}
 use Rattle.inc_report.proofs.KnownParts.{OfKnown}
-use Rattle.inc_report.proofs.QuestionLemmas.{answer_all}
+use Rattle.inc_answers.proofs.QuestionLemmas.{answer_all}
 
 ---- what is printed
 

@@ -8,11 +8,11 @@ use Rattle.inc_check.specs.Certificates.{marks_of}
 use Rattle.inc_graph.specs.IncludeGraph.{Graph}
 use Rattle.inc_lookup.specs.Projects.{Layout}
 use Rattle.inc_rules.specs.Judging.{Judged}
-use Rattle.inc_report.specs.MarkTexts.{chains_text, list_text, more_text}
-use Rattle.inc_report.specs.Numbers.{count_text}
+use Rattle.inc_answers.specs.MarkTexts.{chains_text, list_text, more_text}
+use Rattle.inc_answers.specs.Numbers.{count_text}
 use Rattle.inc_report.specs.RulesText.{judged_text, rules_text}
-use Rattle.inc_report.specs.WhyText.{unresolved_text}
-use Rattle.inc_report.proofs.BoundLemmas.{chains_bounded}
+use Rattle.inc_answers.specs.WhyText.{unresolved_text}
+use Rattle.inc_answers.proofs.BoundLemmas.{chains_bounded}
 
 -- a test of what is seen of each
 pub any_seen : {X Y : Type 0} (p : Y → Bool) (f : X → Y) (xs : List X) → list_any (λ x. p (f x)) xs ≡ list_any p (map f xs)

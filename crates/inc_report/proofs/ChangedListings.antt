@@ -18,7 +18,7 @@ use Rattle.inc_lookup.specs.DirectiveLists.{is_listed}
 use Rattle.inc_lookup.specs.Projects.{File, Layout, Listing, layout_of, paths_of}
 use Rattle.inc_check.specs.Certificates.{IsEachPathOnce}
 use Rattle.inc_pp.specs.BlankedProjects.{blanked_files, blanked_listing}
-use Rattle.inc_report.specs.Changes.{Change, is_held, changes_from, changes, bytes_after, changed_listing}
+use Rattle.inc_answers.specs.Changes.{Change, is_held, changes_from, changes, bytes_after, changed_listing}
 
 ---- a file that holds no directive of the list stays as it is
 

@@ -6,8 +6,8 @@ use lib.Utf8.{encode}
 use Rattle.inc_token.specs.declared.kinds.IncludeName.TheVariants as by
 use Rattle.inc_directive.specs.LineKinds.{Angled, ByName, Computed, Include, Nothing, Other, Quoted, Text}
 use Rattle.inc_directive.specs.declared.kinds.DirectiveKind.TheVariants.{Foreign}
-use Rattle.inc_report.specs.JsonDirectives.{directive_text}
-use Rattle.inc_report.specs.JsonTexts.{bytes_item, bytes_member, list_of, number_member, string_text}
+use Rattle.inc_answers.specs.JsonDirectives.{directive_text}
+use Rattle.inc_answers.specs.JsonTexts.{bytes_item, bytes_member, list_of, number_member, string_text}
 
 -- `"` and `\` have a `\` before them
 pub quotes_are_escaped : string_text (codes "a\"b\\c.h") ≡ codes "\"a\\\"b\\\\c.h\""

@@ -13,18 +13,18 @@ use Rattle.inc_graph.specs.IncludeGraph.{Edge, Graph}
 use Rattle.inc_graph.specs.MissingLists.{Missing}
 use Rattle.inc_graph.specs.Reaching.{Reaching}
 use Rattle.inc_graph.specs.declared.graphs.Blocker.{Blocker}
-use Rattle.inc_report.specs.TreeJson.{branch_item, tree_json}
+use Rattle.inc_answers.specs.TreeJson.{branch_item, tree_json}
 use Rattle.inc_cost.specs.declared.branches.Branch.{Branch}
-use Rattle.inc_report.specs.CostJson.{bytes_text, cost_json, count_member, edge_item, group_item, header_item}
-use Rattle.inc_report.specs.CostText.{Amounts, Ranked}
-use Rattle.inc_report.specs.JsonAnswers.{About, blocked_text, blocker_text, blockers_text, chain_if, chains_text, counted_item, counted_text, cut_json, edge_text, edges_text, file_member, files_text, fixed_json, found_text, from_text, front_text, graph_json, links_text, missing_item, missing_text, named_form, names_text, numbered_text, place_text, sets_ends, shortest_text, source_item, sources_text, status_text, to_text, who_json, why_ends, why_json}
-use Rattle.inc_report.specs.JsonDirectives.{directive_text}
-use Rattle.inc_report.specs.JsonTexts.{bytes_member, list_of, number_member}
+use Rattle.inc_answers.specs.CostJson.{bytes_text, cost_json, count_member, edge_item, group_item, header_item}
+use Rattle.inc_answers.specs.CostText.{Amounts, Ranked}
+use Rattle.inc_answers.specs.JsonAnswers.{About, blocked_text, blocker_text, blockers_text, chain_if, chains_text, counted_item, counted_text, cut_json, edge_text, edges_text, file_member, files_text, fixed_json, found_text, from_text, front_text, graph_json, links_text, missing_item, missing_text, named_form, names_text, numbered_text, place_text, sets_ends, shortest_text, source_item, sources_text, status_text, to_text, who_json, why_ends, why_json}
+use Rattle.inc_answers.specs.JsonDirectives.{directive_text}
+use Rattle.inc_answers.specs.JsonTexts.{bytes_member, list_of, number_member}
 use Rattle.inc_rules.specs.RuleTexts.{joined}
-use Rattle.inc_report.specs.RulesJson.{broken_item, broken_items, rules_json}
+use Rattle.inc_answers.specs.RulesJson.{broken_item, broken_items, rules_json}
 use Rattle.inc_rules.specs.Judging.{Judged, is_broken}
-use Rattle.inc_report.specs.declared.outcome.EndKind.{EndKind}
-use Rattle.inc_report.specs.MissingNames.{MissingName, counted_once_more, first_named, missing_names, spelled, with_missing}
+use Rattle.inc_answers.specs.declared.outcome.EndKind.{EndKind}
+use Rattle.inc_answers.specs.MissingNames.{MissingName, counted_once_more, first_named, missing_names, spelled, with_missing}
 
 -- functions that agree on elements give one list
 map_same : {X Y : Type 0} (f h : X → Y) (xs : List X) → All (λ x. f x ≡ h x) xs → map f xs ≡ map h xs

@@ -12,23 +12,23 @@ use Rattle.inc_graph.specs.IncludeGraph.{Edge, Graph}
 use Rattle.inc_graph.specs.Reaching.{Reaching}
 use Rattle.inc_graph.specs.declared.graphs.Blocker.{Blocker}
 use Rattle.inc_graph.specs.declared.graphs.BlockerKind.{BlockerKind}
-use Rattle.inc_report.specs.Bounds.{first_of, left_out, more_words, shown_count}
-use Rattle.inc_report.specs.CutDocument.{chain_blocks, chains_from, cut_document, fixed_document, proof_blocks, shown_chains}
-use Rattle.inc_report.specs.TreeDocument.{branch_block, tree_document}
+use Rattle.inc_answers.specs.Bounds.{first_of, left_out, more_words, shown_count}
+use Rattle.inc_answers.specs.CutDocument.{chain_blocks, chains_from, cut_document, fixed_document, proof_blocks, shown_chains}
+use Rattle.inc_answers.specs.TreeDocument.{branch_block, tree_document}
 use Rattle.inc_cost.specs.declared.branches.Branch.{Branch}
-use Rattle.inc_report.specs.CostDocument.{below, cost_document, edge_block, edge_blocks, group_block, group_blocks, group_words, header_block, header_blocks, led_edge}
-use Rattle.inc_report.specs.CostGroups.{Costed}
-use Rattle.inc_report.specs.CostText.{Amounts, Ranked}
-use Rattle.inc_report.specs.Documents.{AreGraphKept, AreKept, Block, IsKept, Led, Place, Words, edge_places, first_places, listed, more_blocks, places}
-use Rattle.inc_report.specs.GraphDocument.{graph_document, link_block}
-use Rattle.inc_report.specs.KeptFiles.{Kept, kept_at}
-use Rattle.inc_report.specs.RulesDocument.{broken_blocks, judged_blocks, lacking_blocks, rules_document, summary_words}
-use Rattle.inc_report.specs.WhoDocument.{in_blocks, led, reaching_blocks, reaching_by, source_blocks, who_document}
-use Rattle.inc_report.specs.WhyDocument.{blocker_blocks, blocker_if, blocker_ids, is_kind, is_same, last_of, missing_blocks, missing_id, other_blocks, other_lasts, reached_by, shortest_blocks, unresolved_blocks, way_blocks, why_document, whole_way}
+use Rattle.inc_answers.specs.CostDocument.{below, cost_document, edge_block, edge_blocks, group_block, group_blocks, group_words, header_block, header_blocks, led_edge}
+use Rattle.inc_answers.specs.CostGroups.{Costed}
+use Rattle.inc_answers.specs.CostText.{Amounts, Ranked}
+use Rattle.inc_answers.specs.Documents.{AreGraphKept, AreKept, Block, IsKept, Led, Place, Words, edge_places, first_places, listed, more_blocks, places}
+use Rattle.inc_answers.specs.GraphDocument.{graph_document, link_block}
+use Rattle.inc_answers.specs.KeptFiles.{Kept, kept_at}
+use Rattle.inc_answers.specs.RulesDocument.{broken_blocks, judged_blocks, lacking_blocks, rules_document, summary_words}
+use Rattle.inc_answers.specs.WhoDocument.{in_blocks, led, reaching_blocks, reaching_by, source_blocks, who_document}
+use Rattle.inc_answers.specs.WhyDocument.{blocker_blocks, blocker_if, blocker_ids, is_kind, is_same, last_of, missing_blocks, missing_id, other_blocks, other_lasts, reached_by, shortest_blocks, unresolved_blocks, way_blocks, why_document, whole_way}
 use Rattle.inc_graph.specs.declared.graphs.BlockerKind.TheVariants.{Computed, Foreign, Several}
 use Rattle.inc_rules.specs.Judging.{Judged, is_broken}
 use Rattle.inc_rules.specs.Rules.{Rule}
-use Rattle.inc_report.proofs.CutDirectives.{directives_all}
+use Rattle.inc_answers.proofs.CutDirectives.{directives_all}
 
 module _ (kept : Kept) where
   abbrev IsHeld : DirectiveId → Type 0

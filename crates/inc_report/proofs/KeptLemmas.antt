@@ -8,10 +8,10 @@ use Rattle.std.proofs.lemmas.List.Elements.{All-head, All-tail}
 use Rattle.inc_text.specs.declared.devices.ReadFault.{ReadFault}
 use Rattle.inc_lookup.specs.Given.{Given, Gave, Agrees, HoldsOfGiven}
 use Rattle.inc_lookup.specs.Projects.{Layout, Listing, layout_of, bytes_at}
-use Rattle.inc_report.specs.DefinitionPlaces.{given_bytes}
-use Rattle.inc_report.specs.KeptFiles.{Kept, kept_at, Fits, keeps}
-use Rattle.inc_report.specs.declared.kept_sources.KeptSources.{KeptSources}
-use Rattle.inc_report.proofs.InnerSources as inner
+use Rattle.inc_answers.specs.DefinitionPlaces.{given_bytes}
+use Rattle.inc_answers.specs.KeptFiles.{Kept, kept_at, Fits, keeps}
+use Rattle.inc_answers.specs.declared.kept_sources.KeptSources.{KeptSources}
+use Rattle.inc_answers.proofs.InnerSources as inner
 
 ---- the files that are kept
 

@@ -1,6 +1,6 @@
 -- What is printed of a graph of which that is known.
-use Rattle.inc_report.specs.Known.{IsKnown}
-use Rattle.inc_report.specs.Questions.{Answer}
+use Rattle.inc_answers.specs.Known.{IsKnown}
+use Rattle.inc_answers.specs.Questions.{Answer}
 
 -- what is printed of such a graph
 abbrev pub OfKnown : Answer → Answer

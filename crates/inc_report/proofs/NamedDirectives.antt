@@ -18,7 +18,7 @@ use Rattle.inc_graph.specs.Marks.{Mark}
 use Rattle.inc_graph.proofs.NamedEdges.{no_edge}
 use Rattle.inc_check.specs.Certificates.{edge_numbers, is_marked_editable, IsEachPathOnce}
 use Rattle.inc_check.proofs.VerdictLemmas.{named, numbers_cons}
-use Rattle.inc_report.specs.Terms.{named_directive, named_directives}
+use Rattle.inc_answers.specs.Terms.{named_directive, named_directives}
 
 -- the directive of an edge
 abbrev edge_directive : Edge → DirectiveId

@@ -26,69 +26,71 @@ use Rattle.inc_graph.specs.declared.graphs.Blocker.{Blocker}
 use Rattle.inc_cost.proofs.SameWeights.{IsMet, total_same}
 use Rattle.inc_cost.proofs.Weighing.{contains_member, member_contains}
 use Rattle.inc_graph.proofs.Walks.{inner_edge}
-use Rattle.inc_report.specs.TreeDocument.{tree_document}
-use Rattle.inc_report.specs.TreeText.{tree_branches}
+use Rattle.inc_answers.specs.TreeDocument.{tree_document}
+use Rattle.inc_answers.specs.TreeText.{tree_branches}
 use Rattle.inc_cost.specs.declared.branches.Branch.{Branch}
 use Rattle.inc_cost.proofs.TreeSame.{forest_same}
-use Rattle.inc_report.specs.CostDocument.{cost_document}
-use Rattle.inc_report.specs.CostText.{Ranked}
-use Rattle.inc_report.specs.CutDocument.{has_costs}
-use Rattle.inc_report.specs.CutText.{Unhindered, blocked, marks_refusal, refusal_of_fault}
-use Rattle.inc_report.specs.BlockedReasons.{blocked_reasons}
-use Rattle.inc_report.specs.DefinitionPlaces.{given_bytes, given_place, kept_place}
-use Rattle.inc_report.specs.DirectiveNames.{kept_kind, kept_name, kind_at, kind_of, name_of, written}
-use Rattle.inc_report.specs.Documents.{AreGraphKept, AreKept, Block, IsKept, Led, Place, Words, block_text, document_text}
-use Rattle.inc_report.specs.JsonAnswers.{About, about_subject, kept_about}
-use Rattle.inc_report.specs.JsonDirectives.{directive_text}
-use Rattle.inc_report.specs.JsonRefusals.{mark_items, refusal_json, refusal_object, stray_item}
-use Rattle.inc_report.specs.FileSizes.{file_size, file_sizes, kept_sizes}
-use Rattle.inc_report.specs.KeptFiles.{Fits, Kept, OfKept, keeps, kept_at}
-use Rattle.inc_report.specs.Known.{IsKnown}
-use Rattle.inc_report.specs.MarkReasons.{marks_reason}
-use Rattle.inc_report.specs.AnswerNotes.{empty_notes}
-use Rattle.inc_report.specs.NameTables.{NameSource}
+use Rattle.inc_answers.specs.CostDocument.{cost_document}
+use Rattle.inc_answers.specs.CostText.{Ranked}
+use Rattle.inc_answers.specs.CutDocument.{has_costs}
+use Rattle.inc_answers.specs.CutText.{Unhindered, blocked, marks_refusal, refusal_of_fault}
+use Rattle.inc_answers.specs.BlockedReasons.{blocked_reasons}
+use Rattle.inc_answers.specs.DefinitionPlaces.{given_bytes, given_place, kept_place}
+use Rattle.inc_answers.specs.DirectiveNames.{kept_kind, kept_name, kind_at, kind_of, name_of, written}
+use Rattle.inc_answers.specs.Documents.{AreGraphKept, AreKept, Block, IsKept, Led, Place, Words, block_text, document_text}
+use Rattle.inc_answers.specs.JsonAnswers.{About, about_subject, kept_about}
+use Rattle.inc_answers.specs.JsonDirectives.{directive_text}
+use Rattle.inc_answers.specs.JsonRefusals.{mark_items, refusal_json, refusal_object, stray_item}
+use Rattle.inc_answers.specs.FileSizes.{file_size, file_sizes, kept_sizes}
+use Rattle.inc_answers.specs.KeptFiles.{Fits, Kept, OfKept, keeps, kept_at}
+use Rattle.inc_answers.specs.Known.{IsKnown}
+use Rattle.inc_answers.specs.MarkReasons.{marks_reason}
+use Rattle.inc_answers.specs.AnswerNotes.{empty_notes}
+use Rattle.inc_answers.specs.NameTables.{NameSource}
 use Rattle.inc_report.specs.NamedHeadline.{HasGraph, NamedCutHeadline, NamedHeadline, NamedIsFixed, NamedKeepsHeadersOut, NamedRulesHeadline}
-use Rattle.inc_report.specs.NamedReasons.{Sight, named_reasons}
-use Rattle.inc_report.specs.NamedText.{AreTreesReported, tree_answer, IsCostReport, IsHinderedKept, IsInAnyFormat, IsInFormat, IsNamedAs, IsNamedBy, IsNamedKept, IsNamedOf, IsOfLayout, IsReport, IsReportOf, IsRuleReport, IsStrictKept, IsStrictOf, about, answer_document, answer_json, answer_lines, answer_text, blocked_as, command_name, given_sight, kept_sight, printed_answer, reason_in, refused_text, rules_answer, cost_answer, sight_kept}
-use Rattle.inc_report.specs.Printed.{Printed, answered, answered_of, end_of, reached_kind, refused_for}
-use Rattle.inc_report.specs.Questions.{Answer, IsAnswerBy}
-use Rattle.inc_report.specs.Refusals.{Blocked, NotFound, Refusal, refusal_for, refusal_text}
-use Rattle.inc_report.specs.RulesDocument.{rules_document}
+use Rattle.inc_answers.specs.NamedReasons.{Sight, named_reasons, sight_kept}
+use Rattle.inc_report.specs.NamedText.{AreTreesReported, tree_answer, IsCostReport, IsHinderedKept, IsInAnyFormat, IsInFormat, IsNamedAs, IsNamedBy, IsNamedKept, IsNamedOf, IsOfLayout, IsReport, IsReportOf, IsRuleReport, IsStrictKept, IsStrictOf, about, answer_document, answer_json, answer_lines, answer_text, blocked_as, given_sight, kept_sight, printed_answer, reason_in, refused_text, rules_answer, cost_answer}
+use Rattle.inc_answers.specs.CommandNames.{command_name}
+use Rattle.inc_answers.specs.Printed.{Printed, answered, answered_of, end_of, reached_kind, refused_for}
+use Rattle.inc_answers.specs.Questions.{Answer, IsAnswerBy}
+use Rattle.inc_answers.specs.Refusals.{Blocked, NotFound, Refusal, refusal_for, refusal_text}
+use Rattle.inc_answers.specs.RulesDocument.{rules_document}
 use Rattle.inc_report.specs.RulesText.{rules_kind}
-use Rattle.inc_report.specs.Terms.{Question, Details, Limits, RuleList, is_whole, named_directives, setting_in, CostWords}
+use Rattle.inc_answers.specs.Terms.{Question, Details, Limits, RuleList, is_whole, named_directives, setting_in, CostWords}
 use Rattle.inc_rules.specs.Judging.{Judged, is_broken}
-use Rattle.inc_report.specs.Strictness.{Strict, asked_strays_of, not_found, open_strays_of, stray_reasons}
-use Rattle.inc_report.specs.Told as report
-use Rattle.inc_report.specs.Told.{Chains, Edges, FixedChain, IsAnswerOf, Removed, Sources, end_kind, notes_of}
-use Rattle.inc_report.specs.Views.{seen_refusal}
-use Rattle.inc_report.specs.declared.kept_sources.KeptSources.{KeptSources}
-use Rattle.inc_report.specs.declared.named.Asked.{Asked}
-use Rattle.inc_report.specs.declared.named.Asked.TheVariants as ask
+use Rattle.inc_answers.specs.Strictness.{Strict, asked_strays_of, not_found, open_strays_of, stray_reasons}
+use Rattle.inc_answers.specs.Told as report
+use Rattle.inc_answers.specs.Told.{Chains, Edges, FixedChain, IsAnswerOf, Removed, Sources, end_kind, notes_of}
+use Rattle.inc_answers.specs.Views.{seen_refusal}
+use Rattle.inc_answers.specs.declared.kept_sources.KeptSources.{KeptSources}
+use Rattle.inc_answers.specs.declared.asked.Asked.{Asked}
+use Rattle.inc_answers.specs.declared.asked.Asked.TheVariants as ask
 use Rattle.inc_report.specs.declared.named.Format.{Format}
 use Rattle.inc_report.specs.declared.named.Format.TheVariants.{Gcc, Json, Dot}
 use Rattle.inc_report.specs.declared.named.NamedForm.{NamedForm}
-use Rattle.inc_report.specs.declared.outcome.End.{End}
-use Rattle.inc_report.specs.declared.outcome.EndKind.{EndKind}
-use Rattle.inc_report.specs.declared.outcome.EndKind.TheVariants.{Answered, Negative, Refused}
-use Rattle.inc_report.specs.declared.refusals.Refusal as declared
-use Rattle.inc_report.specs.declared.refusals.Refusal.TheVariants as refused
-use Rattle.inc_report.specs.declared.subjects.Subject.{Subject}
+use Rattle.inc_answers.specs.declared.outcome.End.{End}
+use Rattle.inc_answers.specs.declared.outcome.EndKind.{EndKind}
+use Rattle.inc_answers.specs.declared.outcome.EndKind.TheVariants.{Answered, Negative, Refused}
+use Rattle.inc_answers.specs.declared.refusals.Refusal as declared
+use Rattle.inc_answers.specs.declared.refusals.Refusal.TheVariants as refused
+use Rattle.inc_answers.specs.declared.subjects.Subject.{Subject}
 use Rattle.inc_report.proofs.BlankLemmas.{all_kept}
-use Rattle.inc_report.proofs.CostLemmas.{size_by}
-use Rattle.inc_report.proofs.CutLemmas.{unhindered}
-use Rattle.inc_report.proofs.HeadlineLemmas.{IsTold, told_of, stated_other, stated_yes, stated_no, unhindered_all, unhindered_told, unless_told, ends_apart, answered_negative}
+use Rattle.inc_answers.proofs.CostLemmas.{size_by}
+use Rattle.inc_answers.proofs.CutLemmas.{unhindered}
+use Rattle.inc_report.proofs.HeadlineLemmas.{unhindered_all, ends_apart, answered_negative}
+use Rattle.inc_answers.proofs.StatedAnswers.{IsTold, told_of, stated_other, stated_yes, stated_no, unhindered_told, unless_told}
 use Rattle.inc_report.proofs.JsonKept.{AreSame, cost_same, cut_same, fixed_same, graph_same, items_same, rules_object, tree_same, who_same, why_same}
 use Rattle.inc_report.proofs.KeptDirectives.{cost_kept, cut_kept, fixed_kept, links_kept, rules_kept, tree_kept, who_kept, why_kept}
-use Rattle.inc_report.proofs.DefinitionLemmas.{place_same}
+use Rattle.inc_answers.proofs.DefinitionLemmas.{place_same}
 use Rattle.inc_report.proofs.KeptLemmas.{fits_given, fits_unread, holds_inner, kept_given, kept_is_given, kept_none, kept_ungiven}
 use Rattle.inc_report.proofs.KeptOut.{answered_cut_keeps_headers_out, of_names_once}
-use Rattle.inc_report.proofs.MarkReasonLemmas.{by_reason, reasoned_is}
-use Rattle.inc_report.proofs.MetFiles as met
-use Rattle.inc_report.proofs.NamedReasonLemmas.{reasons_same}
-use Rattle.inc_report.proofs.QuestionLemmas.{answer_all}
-use Rattle.inc_report.proofs.RankedSame.{ranked_same}
+use Rattle.inc_answers.proofs.MarkReasonLemmas.{by_reason, reasoned_is}
+use Rattle.inc_answers.proofs.MetFiles as met
+use Rattle.inc_answers.proofs.NamedReasonLemmas.{reasons_same}
+use Rattle.inc_answers.proofs.QuestionLemmas.{answer_all}
+use Rattle.inc_answers.proofs.RankedSame.{ranked_same}
 use Rattle.inc_report.proofs.RulesKept.{rules_promised}
-use Rattle.inc_report.proofs.StrictLemmas.{strays_all, unless_none, unless_some}
+use Rattle.inc_answers.proofs.StrictLemmas.{strays_all, unless_none, unless_some}
 use Rattle.inc_report.proofs.UnresolvedTexts.{blocker_in_text, missing_in_text}
 
 -- a text, and how the call ends

@@ -1,21 +1,21 @@
 -- The definitions of what `why`, `who` and `graph` print leave one text.
 use Rattle.std.proofs.Common.{◌≡◌, ℕ, Bool, List, Option, Result, Ok, Err, sym, ap, ◌∙◌, subst}
 use Rattle.inc_graph.specs.declared.building.Source.{Source}
-use Rattle.inc_report.specs.Terms.{Question, is_whole, setting_in}
+use Rattle.inc_answers.specs.Terms.{Question, is_whole, setting_in}
 use Rattle.inc_lookup.specs.Projects.{Layout, Listing, layout_of}
 use Rattle.inc_graph.specs.IncludeGraph.{Graph}
 use Rattle.inc_graph.specs.declared.building.GraphRefusal.{GraphRefusal}
 use Rattle.inc_graph.specs.declared.building.GraphRefusal.TheVariants as graph
 use Rattle.inc_graph.specs.Reaching.{Reaching}
 use Rattle.inc_graph.proofs.OneAnswer.{one_graph, one_shortest, one_by_last, one_reaching}
-use Rattle.inc_report.specs.GraphText.{IsGraphOf, IsGraph}
-use Rattle.inc_report.specs.NamedFiles.{headers_at, sources_at}
-use Rattle.inc_report.specs.Questions.{WithFiles, IsRefusalOf, OfGraph, WithGraph}
-use Rattle.inc_report.specs.Printed.{Printed}
-use Rattle.inc_report.specs.Strictness.{Strict, strays_of}
-use Rattle.inc_report.specs.WhoText.{who_printed, IsWhoOf, IsWho}
-use Rattle.inc_report.specs.WhyText.{why_printed, IsWhyOf, IsWhy}
-use Rattle.inc_report.proofs.StrictLemmas.{one_unless}
+use Rattle.inc_answers.specs.GraphText.{IsGraphOf, IsGraph}
+use Rattle.inc_answers.specs.NamedFiles.{headers_at, sources_at}
+use Rattle.inc_answers.specs.Questions.{WithFiles, IsRefusalOf, OfGraph, WithGraph}
+use Rattle.inc_answers.specs.Printed.{Printed}
+use Rattle.inc_answers.specs.Strictness.{Strict, strays_of}
+use Rattle.inc_answers.specs.WhoText.{who_printed, IsWhoOf, IsWho}
+use Rattle.inc_answers.specs.WhyText.{why_printed, IsWhyOf, IsWhy}
+use Rattle.inc_answers.proofs.StrictLemmas.{one_unless}
 
 one_why_of : (whole fails : Bool) (most : Option ℕ) (layout : Layout) (g : Graph) (p q : Printed) → IsWhyOf whole fails most layout g p → IsWhyOf whole fails most layout g q → p ≡ q
 one_why_of whole fails most layout g p q h k =

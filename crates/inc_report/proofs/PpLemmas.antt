@@ -26,9 +26,9 @@ use Rattle.inc_report.specs.NoOutcomes.{IsRefusedPp, stop_line, stop_end}
 use Rattle.inc_report.specs.PpSteps.{Common, IsSection, FailsIn}
 use Rattle.inc_report.specs.PpText.{define_number, outcome_printed, stop_text}
 use Rattle.inc_report.specs.PpTexts.{Section, if_wanted, refused_section, section, section_at, section_of, shown}
-use Rattle.inc_report.specs.Printed.{Printed, answered, end_of, negative}
-use Rattle.inc_report.specs.NamedFiles.{file_at}
-use Rattle.inc_report.specs.Refusals.{NoSuchSource, BadDefinition, refusal}
+use Rattle.inc_answers.specs.Printed.{Printed, answered, end_of, negative}
+use Rattle.inc_answers.specs.NamedFiles.{file_at}
+use Rattle.inc_answers.specs.Refusals.{NoSuchSource, BadDefinition, refusal}
 use Rattle.inc_report.specs.declared.pp.Wanted.{Wanted}
 
 ---- the text of an outcome

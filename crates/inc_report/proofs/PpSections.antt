@@ -15,19 +15,20 @@ use Rattle.inc_pp.specs.Readings.{IsOfReadsAfter}
 use Rattle.inc_pp.specs.Shared.{AreUnread}
 use Rattle.inc_pp.specs.Walks.{Held}
 use Rattle.inc_pp.proofs.Readings.{shared-unread}
-use Rattle.inc_report.specs.declared.outcome.End.{End}
-use Rattle.inc_report.specs.declared.outcome.EndKind.{EndKind}
-use Rattle.inc_report.specs.declared.outcome.EndKind.TheVariants.{Answered, Negative, Refused}
-use Rattle.inc_report.specs.declared.outcome.RunFault.{RunFault}
+use Rattle.inc_answers.specs.declared.outcome.End.{End}
+use Rattle.inc_answers.specs.declared.outcome.EndKind.{EndKind}
+use Rattle.inc_answers.specs.declared.outcome.EndKind.TheVariants.{Answered, Negative, Refused}
+use Rattle.inc_answers.specs.declared.outcome.RunFault.{RunFault}
 use Rattle.inc_report.specs.declared.pp.Wanted.{Wanted}
-use Rattle.inc_report.specs.declared.outcome.RunFault.TheVariants.{CannotRead, FileTooLong, CannotReadCertificate, Write, NoMemory}
+use Rattle.inc_answers.specs.declared.outcome.RunFault.TheVariants.{CannotRead, FileTooLong, CannotReadCertificate, Write, NoMemory}
 use Rattle.inc_report.specs.PpSteps.{Common, AreSharedBy, IsSection, FailsIn}
-use Rattle.inc_report.specs.PpTexts.{IsNextPp, IsPpBy, Section, all_printed, all_reads, section, shown, source_notes, worse, worst}
-use Rattle.inc_report.specs.Printed.{Printed, answered, end_of, with_texts}
-use Rattle.inc_report.specs.Writing.{Writes, WritesEach, unread_of}
+use Rattle.inc_report.specs.PpTexts.{IsNextPp, IsPpBy, Section, all_printed, all_reads, section, shown, worse, worst}
+use Rattle.inc_answers.specs.NearNames.{source_notes}
+use Rattle.inc_answers.specs.Printed.{Printed, answered, end_of, with_texts}
+use Rattle.inc_answers.specs.Writing.{Writes, WritesEach, unread_of}
 use Rattle.inc_report.proofs.PpLemmas.{read-none}
-use Rattle.inc_report.proofs.SendingLemmas.{appends_none, appends_then, front_then}
-use Rattle.inc_report.proofs.WritingLemmas.{nothing_given}
+use Rattle.inc_answers.proofs.SendingLemmas.{appends_none, appends_then, front_then}
+use Rattle.inc_answers.proofs.WritingLemmas.{nothing_given}
 
 ---- ends
 

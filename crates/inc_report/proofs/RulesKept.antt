@@ -21,15 +21,15 @@ use Rattle.inc_rules.specs.Judging.{AreJudged, AreReachChains, Judged, across_ch
 use Rattle.inc_rules.specs.Rules.{Rule, is_left, is_right}
 use Rattle.inc_rules.specs.declared.rules.Verb.{Verb}
 use Rattle.inc_rules.specs.declared.rules.Verb.TheVariants.{NotReach, NotInclude, Include, IncludeFirst}
-use Rattle.inc_report.specs.NamedFiles.{headers_at}
-use Rattle.inc_report.specs.Printed.{Printed}
-use Rattle.inc_report.specs.Questions.{Answer}
+use Rattle.inc_answers.specs.NamedFiles.{headers_at}
+use Rattle.inc_answers.specs.Printed.{Printed}
+use Rattle.inc_answers.specs.Questions.{Answer}
 use Rattle.inc_report.specs.RulesHeadline.{KeepsRule, NeverBreaks, RulesAreKept, RulesHeadline, SarifHeadline}
 use Rattle.inc_report.specs.RulesSarif.{IsSarifBy, IsSarifOf, sarif_text}
 use Rattle.inc_report.specs.RulesText.{IsRulesBy, IsRulesOf, rules_text}
-use Rattle.inc_report.specs.Strictness.{Strict, strays_of}
-use Rattle.inc_report.specs.Terms.{Question, RuleList, setting_in}
-use Rattle.inc_report.proofs.HeadlineLemmas.{IsTold, stated_other, told_of, unless_told}
+use Rattle.inc_answers.specs.Strictness.{Strict, strays_of}
+use Rattle.inc_answers.specs.Terms.{Question, RuleList, setting_in}
+use Rattle.inc_answers.proofs.StatedAnswers.{IsTold, stated_other, told_of, unless_told}
 use Rattle.inc_report.proofs.KeptOut.{nothing_is_read_without_a_chain, once_define_none}
 
 ---- lists

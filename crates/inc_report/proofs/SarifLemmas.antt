@@ -6,11 +6,11 @@ use Rattle.std.proofs.lemmas.Grind.{flat_map-append}
 use Rattle.std.proofs.lemmas.List.{append-nil, append_assoc, drop_more}
 use Rattle.inc_graph.specs.IncludeGraph.{Graph}
 use Rattle.inc_lookup.specs.Projects.{Layout}
-use Rattle.inc_report.specs.JsonTexts.{comma_at, items_text, list_of}
+use Rattle.inc_answers.specs.JsonTexts.{comma_at, items_text, list_of}
 use Rattle.inc_report.specs.RulesSarif.{Listed, chain_result, file_result, results_from, rule_item, rule_results}
-use Rattle.inc_report.proofs.JoinedTexts.{item_more, items_from, items_later, list_made}
-use Rattle.inc_report.proofs.NoteLemmas.{joined_as}
-use Rattle.inc_report.proofs.WhyLemmas.{flat_map-map}
+use Rattle.inc_answers.proofs.JoinedTexts.{item_more, items_from, items_later, list_made}
+use Rattle.inc_answers.proofs.NoteLemmas.{joined_as}
+use Rattle.inc_answers.proofs.WhyLemmas.{flat_map-map}
 use Rattle.inc_rules.specs.Judging as spec
 use Rattle.inc_rules.specs.Views.{seen_judged, seen_rule}
 use Rattle.inc_rules.specs.declared.judging.Judged.{Judged}

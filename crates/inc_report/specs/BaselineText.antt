@@ -12,20 +12,20 @@ use Rattle.inc_check.specs.Texts.{line_text}
 use Rattle.inc_graph.specs.Cuts.{directives_of}
 use Rattle.inc_rules.specs.Breaking.{AreBreaking, lacking}
 use Rattle.inc_rules.specs.Judging.{Judged}
-use Rattle.inc_report.specs.JsonAnswers.{About}
-use Rattle.inc_report.specs.KeptFiles.{OfKept}
-use Rattle.inc_report.specs.MissingNames.{between}
-use Rattle.inc_report.specs.NamedReasons.{Sight}
+use Rattle.inc_answers.specs.JsonAnswers.{About}
+use Rattle.inc_answers.specs.KeptFiles.{OfKept}
+use Rattle.inc_answers.specs.MissingNames.{between}
+use Rattle.inc_answers.specs.NamedReasons.{Sight}
 use Rattle.inc_report.specs.NamedText.{IsInFormat, about, given_sight, kept_sight, rules_answer}
-use Rattle.inc_report.specs.Printed.{Printed, end_of, with_baseline}
-use Rattle.inc_report.specs.Questions.{Answer, IsAnswerBy}
+use Rattle.inc_answers.specs.Printed.{Printed, end_of, with_baseline}
+use Rattle.inc_answers.specs.Questions.{Answer, IsAnswerBy}
 use Rattle.inc_report.specs.RulesText.{rules_kind, rules_text}
-use Rattle.inc_report.specs.Strictness.{Strict, strays_of}
-use Rattle.inc_report.specs.Terms.{Question, RuleList}
-use Rattle.inc_report.specs.declared.named.Asked.TheVariants as asked
+use Rattle.inc_answers.specs.Strictness.{Strict, strays_of}
+use Rattle.inc_answers.specs.Terms.{Question, RuleList}
+use Rattle.inc_answers.specs.declared.asked.Asked.TheVariants as asked
 use Rattle.inc_report.specs.declared.named.Format.{Format}
 use Rattle.inc_report.specs.declared.named.NamedForm.{NamedForm}
-use Rattle.inc_report.specs.declared.subjects.Subject.{Subject}
+use Rattle.inc_answers.specs.declared.subjects.Subject.{Subject}
 
 ---- a line
 

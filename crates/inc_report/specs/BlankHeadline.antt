@@ -5,14 +5,14 @@ use Rattle.inc_lookup.specs.Projects.{Listing, layout_of}
 use Rattle.inc_graph.specs.Cuts.{fixed_by, costs_by, directives_of, IsCheapest}
 use Rattle.inc_graph.specs.IncludeGraph.{Graph, IsGraphAnswer}
 use Rattle.inc_graph.specs.MarkedEdges.{amounts_by}
-use Rattle.inc_report.specs.BlankText.{files_text}
-use Rattle.inc_report.specs.Changes.{Change, changes, changed_listing}
+use Rattle.inc_answers.specs.BlankText.{files_text}
+use Rattle.inc_answers.specs.Changes.{Change, changes, changed_listing}
 use Rattle.inc_report.specs.Headline.{NeverReadAny, IsWhollyFixed}
-use Rattle.inc_report.specs.NamedFiles.{headers_at, sources_at}
-use Rattle.inc_report.specs.PatchText.{patch_text}
-use Rattle.inc_report.specs.Printed.{Printed}
-use Rattle.inc_report.specs.Terms.{Question, Limits, named_directives, setting_in}
-use Rattle.inc_report.specs.declared.outcome.EndKind.TheVariants.{Answered, Negative}
+use Rattle.inc_answers.specs.NamedFiles.{headers_at, sources_at}
+use Rattle.inc_answers.specs.PatchText.{patch_text}
+use Rattle.inc_answers.specs.Printed.{Printed}
+use Rattle.inc_answers.specs.Terms.{Question, Limits, named_directives, setting_in}
+use Rattle.inc_answers.specs.declared.outcome.EndKind.TheVariants.{Answered, Negative}
 
 -- the project with the changed files in place of the old ones keeps the headers out of every preprocessing, and no cheaper set of
 -- editable directives than those that are blanked in them separates the sources from the headers in their graph

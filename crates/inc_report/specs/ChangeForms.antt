@@ -1,8 +1,8 @@
 -- The texts of changed files.
 use Rattle.std.specs.Prelude.{ℕ, List}
-use Rattle.inc_report.specs.BlankText.{files_text}
-use Rattle.inc_report.specs.Changes.{Change}
-use Rattle.inc_report.specs.PatchText.{patch_text}
+use Rattle.inc_answers.specs.BlankText.{files_text}
+use Rattle.inc_answers.specs.Changes.{Change}
+use Rattle.inc_answers.specs.PatchText.{patch_text}
 use Rattle.inc_report.specs.declared.edits.Form.{Form}
 use Rattle.inc_report.specs.declared.edits.Form.TheVariants.{Files, Patch}
 

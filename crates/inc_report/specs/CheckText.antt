@@ -1,7 +1,7 @@
 -- The text that `check` prints.
 use Rattle.std.specs.Prelude.{◌≡◌, ◌⊎◌, ℕ, List, ◌++◌, codes, decimal}
-use Rattle.inc_report.specs.AnswerNotes.{empty_notes}
-use Rattle.inc_report.specs.Terms.{Question, Limits}
+use Rattle.inc_answers.specs.AnswerNotes.{empty_notes}
+use Rattle.inc_answers.specs.Terms.{Question, Limits}
 use Rattle.inc_lookup.specs.Given.{Given}
 use Rattle.inc_lookup.specs.Projects.{Layout, Listing}
 use Rattle.inc_graph.specs.Cuts.{fixed_by, costs_by}
@@ -14,13 +14,13 @@ use Rattle.inc_check.specs.declared.verdicts.Reason.{Reason}
 use Rattle.inc_check.specs.declared.verdicts.Reason.TheVariants.{NotEditable, Repeated, StillReached, NotAChain, Shared, Counts}
 use Rattle.inc_check.specs.declared.verdicts.Verdict.{Verdict}
 use Rattle.inc_check.specs.declared.verdicts.Verdict.TheVariants.{Yes, No}
-use Rattle.inc_report.specs.CutText.{WithAmounts}
-use Rattle.inc_report.specs.Printed.{Printed, end_of}
-use Rattle.inc_report.specs.Questions.{IsAnswerBy}
-use Rattle.inc_report.specs.Refusals.{Malformed, refusal}
-use Rattle.inc_report.specs.Strictness.{Strict, open_strays_of}
-use Rattle.inc_report.specs.declared.outcome.EndKind.{EndKind}
-use Rattle.inc_report.specs.declared.outcome.EndKind.TheVariants.{Answered, Negative}
+use Rattle.inc_answers.specs.CutText.{WithAmounts}
+use Rattle.inc_answers.specs.Printed.{Printed, end_of}
+use Rattle.inc_answers.specs.Questions.{IsAnswerBy}
+use Rattle.inc_answers.specs.Refusals.{Malformed, refusal}
+use Rattle.inc_answers.specs.Strictness.{Strict, open_strays_of}
+use Rattle.inc_answers.specs.declared.outcome.EndKind.{EndKind}
+use Rattle.inc_answers.specs.declared.outcome.EndKind.TheVariants.{Answered, Negative}
 
 -- the words of a reason
 abbrev pub reason_text : Reason → List ℕ

@@ -16,11 +16,11 @@ use Rattle.inc_check.specs.declared.certificates.Certificate.{Certificate}
 use Rattle.inc_macro.specs.Macros.{is_defined, no_macros, with_words}
 use Rattle.inc_pp.specs.Preprocessing.{Outcome, preprocessing}
 use Rattle.inc_pp.specs.Settings.{Settings}
-use Rattle.inc_report.specs.MarkTexts.{list_text}
-use Rattle.inc_report.specs.NamedFiles.{headers_at, sources_at}
-use Rattle.inc_report.specs.Printed.{Printed}
-use Rattle.inc_report.specs.Terms.{Question, Limits, named_directives, setting_in}
-use Rattle.inc_report.specs.declared.outcome.EndKind.TheVariants.{Answered, Negative}
+use Rattle.inc_answers.specs.MarkTexts.{list_text}
+use Rattle.inc_answers.specs.NamedFiles.{headers_at, sources_at}
+use Rattle.inc_answers.specs.Printed.{Printed}
+use Rattle.inc_answers.specs.Terms.{Question, Limits, named_directives, setting_in}
+use Rattle.inc_answers.specs.declared.outcome.EndKind.TheVariants.{Answered, Negative}
 
 -- once the words of a command line are taken, none of these names is defined
 abbrev pub DefineNone : Language → (words : List (List ℕ)) → (names : List (List ℕ)) → Type 0

@@ -5,17 +5,17 @@ use Rattle.inc_lookup.specs.Projects.{Listing, layout_of}
 use Rattle.inc_graph.specs.Cuts.{Counted, fixed_by, costs_by, directives_of, IsCut, IsFixedChain}
 use Rattle.inc_graph.specs.IncludeGraph.{Graph, IsGraphAnswer}
 use Rattle.inc_graph.specs.MarkedEdges.{amounts_by}
-use Rattle.inc_report.specs.CutDocument.{has_costs}
+use Rattle.inc_answers.specs.CutDocument.{has_costs}
 use Rattle.inc_report.specs.Headline.{NeverReadAny}
-use Rattle.inc_report.specs.NamedFiles.{headers_at, sources_at}
+use Rattle.inc_answers.specs.NamedFiles.{headers_at, sources_at}
 use Rattle.inc_report.specs.NamedText.{about, answer_text, rules_answer}
-use Rattle.inc_report.specs.Printed.{Printed}
+use Rattle.inc_answers.specs.Printed.{Printed}
 use Rattle.inc_report.specs.RulesHeadline.{RulesHeadlineBy}
-use Rattle.inc_report.specs.Terms.{Question, Details, Limits, RuleList, named_directives, setting_in}
-use Rattle.inc_report.specs.Told.{Answer, Removed, FixedChain}
-use Rattle.inc_report.specs.declared.named.Asked.TheVariants.{Cut, Rules}
+use Rattle.inc_answers.specs.Terms.{Question, Details, Limits, RuleList, named_directives, setting_in}
+use Rattle.inc_answers.specs.Told.{Answer, Removed, FixedChain}
+use Rattle.inc_answers.specs.declared.asked.Asked.TheVariants.{Cut, Rules}
 use Rattle.inc_report.specs.declared.named.NamedForm.{NamedForm}
-use Rattle.inc_report.specs.declared.outcome.EndKind.TheVariants.{Answered, Negative}
+use Rattle.inc_answers.specs.declared.outcome.EndKind.TheVariants.{Answered, Negative}
 
 -- the graph between the sources and the headers of a question
 pub record HasGraph (q : Question) (listing : Listing) : Type 0 where

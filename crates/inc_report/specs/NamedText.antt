@@ -12,46 +12,47 @@ use Rattle.inc_cost.specs.declared.branches.Branch.{Branch}
 use Rattle.inc_graph.specs.Cuts.{Counted}
 use Rattle.inc_graph.specs.IncludeGraph.{Graph}
 use Rattle.inc_rules.specs.Judging.{AreJudged, Judged}
-use Rattle.inc_report.specs.CostDocument.{cost_document}
-use Rattle.inc_report.specs.CostJson.{cost_json}
-use Rattle.inc_report.specs.CostText.{IsRanked, Ranked}
-use Rattle.inc_report.specs.CutDocument.{cut_document, fixed_document, has_costs}
-use Rattle.inc_report.specs.CutText.{Unhindered, WithAmounts, marks_refusal}
-use Rattle.inc_report.specs.DefinitionPlaces.{given_place, kept_place}
-use Rattle.inc_report.specs.DirectiveNames.{kept_kind, kind_of, written}
-use Rattle.inc_report.specs.Documents.{Block, document_text}
-use Rattle.inc_report.specs.DotText.{Drawn, all_drawn, dot_text, drawn}
-use Rattle.inc_report.specs.FileSizes.{file_sizes}
-use Rattle.inc_report.specs.GraphDocument.{graph_document}
-use Rattle.inc_report.specs.JsonAnswers.{About, cut_json, fixed_json, graph_json, who_json, why_json}
-use Rattle.inc_report.specs.JsonRefusals.{refusal_json}
-use Rattle.inc_report.specs.KeptFiles.{Kept, OfKept}
-use Rattle.inc_report.specs.AnswerNotes.{empty_notes}
-use Rattle.inc_report.specs.NamedReasons.{Sight, named_reasons}
-use Rattle.inc_report.specs.Printed.{Printed, answered_of, end_of, refused_for}
-use Rattle.inc_report.specs.Questions as questions
-use Rattle.inc_report.specs.Questions.{IsAnswerBy}
-use Rattle.inc_report.specs.Refusals.{Blocked, NotFound, Refusal, refusal_for, refusal_text}
-use Rattle.inc_report.specs.RulesDocument.{all_chains, rules_document}
-use Rattle.inc_report.specs.RulesJson.{rules_json}
+use Rattle.inc_answers.specs.CommandNames.{command_name}
+use Rattle.inc_answers.specs.CostDocument.{cost_document}
+use Rattle.inc_answers.specs.CostJson.{cost_json}
+use Rattle.inc_answers.specs.CostText.{IsRanked, Ranked}
+use Rattle.inc_answers.specs.CutDocument.{cut_document, fixed_document, has_costs}
+use Rattle.inc_answers.specs.CutText.{Unhindered, WithAmounts, marks_refusal}
+use Rattle.inc_answers.specs.DefinitionPlaces.{given_place, kept_place}
+use Rattle.inc_answers.specs.DirectiveNames.{kept_kind, kind_of, written}
+use Rattle.inc_answers.specs.Documents.{Block, document_text}
+use Rattle.inc_answers.specs.DotText.{Drawn, all_drawn, dot_text, drawn}
+use Rattle.inc_answers.specs.FileSizes.{file_sizes}
+use Rattle.inc_answers.specs.GraphDocument.{graph_document}
+use Rattle.inc_answers.specs.JsonAnswers.{About, cut_json, fixed_json, graph_json, who_json, why_json}
+use Rattle.inc_answers.specs.JsonRefusals.{refusal_json}
+use Rattle.inc_answers.specs.KeptFiles.{Kept, OfKept}
+use Rattle.inc_answers.specs.AnswerNotes.{empty_notes}
+use Rattle.inc_answers.specs.NamedReasons.{Sight, named_reasons, sight_kept}
+use Rattle.inc_answers.specs.Printed.{Printed, answered_of, end_of, refused_for}
+use Rattle.inc_answers.specs.Questions as questions
+use Rattle.inc_answers.specs.Questions.{IsAnswerBy}
+use Rattle.inc_answers.specs.Refusals.{Blocked, NotFound, Refusal, refusal_for, refusal_text}
+use Rattle.inc_answers.specs.RulesDocument.{all_chains, rules_document}
+use Rattle.inc_answers.specs.RulesJson.{rules_json}
 use Rattle.inc_report.specs.RulesText.{rules_kind}
-use Rattle.inc_report.specs.Strictness.{Strict, asked_strays_of}
-use Rattle.inc_report.specs.Terms.{CostWords, Question, Details, Limits, RuleList, is_whole}
-use Rattle.inc_report.specs.Told.{Answer, Chains, Sources, Edges, Removed, FixedChain, IsAnswerOf, end_kind, notes_of}
-use Rattle.inc_report.specs.TreeDocument.{tree_document}
-use Rattle.inc_report.specs.TreeJson.{tree_json}
-use Rattle.inc_report.specs.TreeText.{tree_branches}
-use Rattle.inc_report.specs.WhoDocument.{who_document}
-use Rattle.inc_report.specs.WhyDocument.{why_document}
-use Rattle.inc_report.specs.declared.named.Asked.{Asked}
-use Rattle.inc_report.specs.declared.named.Asked.TheVariants as ask
-use Rattle.inc_report.specs.declared.named.Asked.TheVariants.{Why, Who, Cut}
+use Rattle.inc_answers.specs.Strictness.{Strict, asked_strays_of}
+use Rattle.inc_answers.specs.Terms.{CostWords, Question, Details, Limits, RuleList, is_whole}
+use Rattle.inc_answers.specs.Told.{Answer, Chains, Sources, Edges, Removed, FixedChain, IsAnswerOf, end_kind, notes_of}
+use Rattle.inc_answers.specs.TreeDocument.{tree_document}
+use Rattle.inc_answers.specs.TreeJson.{tree_json}
+use Rattle.inc_answers.specs.TreeText.{tree_branches}
+use Rattle.inc_answers.specs.WhoDocument.{who_document}
+use Rattle.inc_answers.specs.WhyDocument.{why_document}
+use Rattle.inc_answers.specs.declared.asked.Asked.{Asked}
+use Rattle.inc_answers.specs.declared.asked.Asked.TheVariants as ask
+use Rattle.inc_answers.specs.declared.asked.Asked.TheVariants.{Why, Who, Cut}
 use Rattle.inc_report.specs.declared.named.Format.{Format}
 use Rattle.inc_report.specs.declared.named.Format.TheVariants.{Gcc, Json, Dot}
 use Rattle.inc_report.specs.declared.named.NamedForm.{NamedForm}
-use Rattle.inc_report.specs.declared.outcome.EndKind.{EndKind}
-use Rattle.inc_report.specs.declared.outcome.EndKind.TheVariants.{Refused}
-use Rattle.inc_report.specs.declared.subjects.Subject.{Subject}
+use Rattle.inc_answers.specs.declared.outcome.EndKind.{EndKind}
+use Rattle.inc_answers.specs.declared.outcome.EndKind.TheVariants.{Refused}
+use Rattle.inc_answers.specs.declared.subjects.Subject.{Subject}
 
 ---- an answer in each format
 
@@ -105,23 +106,6 @@ printed_answer whole form costed amounts a answer =
     record { text = answer_text form costed amounts a answer; end = end_of (notes_of whole a.layout a.graph answer) (end_kind form.fails answer) }
 
 ---- a refusal in each format
-
-abbrev pub command_name : Asked → List ℕ
-command_name Why = codes "why"
-command_name Who = codes "who"
-command_name ask.Graph = codes "graph"
-command_name Cut = codes "cut"
-command_name ask.Rules = codes "rules"
-command_name ask.Cost = codes "cost"
-command_name ask.Tree = codes "cost"
-
--- whether it is about headers, too
-abbrev pub asks_headers : Asked → Bool
-asks_headers ask.Graph = false
-asks_headers ask.Rules = false
-asks_headers ask.Cost = false
-asks_headers ask.Tree = false
-asks_headers _ = true
 
 -- as a text, or as an object
 abbrev pub refused_text : NamedForm → (kind : DirectiveId → LineKind) → Refusal → List ℕ
@@ -253,13 +237,6 @@ abbrev pub IsHinderedKept : NamedForm → Question → Limits → Subject → Pr
 IsHinderedKept form q l s p =
     (plain : Printed) × Unhindered s.project.now s.graph.now.definitions s.graph.now.blockers (marks_refusal s.project.now s.graph.now l.fixed l.costs) (λ r. ⊥) plain
     × OfKept s.files.now s.project.now (λ listing. IsInFormat form q s.project.now (kept_sight s.language listing s.project.now s.files.now) plain p)
-
--- by what is kept of them alone
-abbrev pub sight_kept : Language → Layout → Kept → Sight
-sight_kept language layout kept = record {
-  kind = kept_kind language kept;
-  definition = kept_place language kept (length layout.paths);
-}
 
 -- the refusal of a cut by all blockers of a graph
 abbrev pub blocked_as : NamedForm → Question → Subject → Printed

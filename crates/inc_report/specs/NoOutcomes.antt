@@ -5,13 +5,13 @@ use Rattle.inc_lookup.specs.Projects.{Layout}
 use Rattle.inc_pp.specs.declared.causes.Stop.{Stop}
 use Rattle.inc_pp.specs.declared.outcomes.PpRefusal.TheVariants as pp
 use Rattle.inc_pp.specs.Refusals.{read_fault_of}
-use Rattle.inc_report.specs.declared.outcome.EndKind.{EndKind}
-use Rattle.inc_report.specs.declared.outcome.EndKind.TheVariants.{Answered, Negative}
+use Rattle.inc_answers.specs.declared.outcome.EndKind.{EndKind}
+use Rattle.inc_answers.specs.declared.outcome.EndKind.TheVariants.{Answered, Negative}
 use Rattle.inc_report.specs.declared.pp.NoOutcome.{NoOutcome}
 use Rattle.inc_report.specs.declared.pp.NoOutcome.TheVariants.{NoSource, Refused}
 use Rattle.inc_report.specs.PpText.{define_number, stop_text}
-use Rattle.inc_report.specs.Printed.{Printed}
-use Rattle.inc_report.specs.Refusals.{NoSuchSource, BadDefinition, refusal}
+use Rattle.inc_answers.specs.Printed.{Printed}
+use Rattle.inc_answers.specs.Refusals.{NoSuchSource, BadDefinition, refusal}
 
 -- what is printed then; where a file is not read, or memory runs out, nothing is
 abbrev pub IsRefusedPp : NoOutcome → Printed → Type 0

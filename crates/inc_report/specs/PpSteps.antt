@@ -9,7 +9,7 @@ use Rattle.inc_pp.specs.Settings.{Settings}
 use Rattle.inc_pp.specs.Shared.{AreShared}
 use Rattle.inc_pp.specs.Walks.{Held}
 use Rattle.inc_report.specs.PpTexts.{IsNextOf, section, shown}
-use Rattle.inc_report.specs.Printed.{Printed}
+use Rattle.inc_answers.specs.Printed.{Printed}
 use Rattle.inc_report.specs.declared.pp.Wanted.{Wanted}
 
 -- what all sources have in common

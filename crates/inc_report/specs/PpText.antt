@@ -14,9 +14,9 @@ use Rattle.inc_pp.specs.declared.causes.Cause.TheVariants as cause
 use Rattle.inc_pp.specs.declared.causes.Stop.{Stop}
 use Rattle.inc_pp.specs.Preprocessing.{Outcome}
 use Rattle.inc_pp.specs.Printed.{printed}
-use Rattle.inc_report.specs.MarkTexts.{mark_at, mark_text}
-use Rattle.inc_report.specs.Numbers.{point_text}
-use Rattle.inc_report.specs.Printed.{Printed, answered, negative}
+use Rattle.inc_answers.specs.MarkTexts.{mark_at, mark_text}
+use Rattle.inc_answers.specs.Numbers.{point_text}
+use Rattle.inc_answers.specs.Printed.{Printed, answered, negative}
 
 -- the numbers of faults, in the order of their types; a want of memory is none
 abbrev pub balance_number : BalanceFault → ℕ

@@ -9,17 +9,17 @@ use Rattle.inc_check.specs.Texts.{line_text}
 use Rattle.inc_pp.specs.Preprocessing.{Outcome, preprocessing}
 use Rattle.inc_pp.specs.Readings.{IsOfReadsAfter}
 use Rattle.inc_pp.specs.Settings.{Settings, sourced_settings}
-use Rattle.inc_report.specs.declared.outcome.EndKind.{EndKind}
-use Rattle.inc_report.specs.declared.outcome.EndKind.TheVariants.{Answered, Negative, Refused}
-use Rattle.inc_report.specs.NamedFiles.{file_at}
-use Rattle.inc_report.specs.NearNames.{unnamed, unnamed_lines}
+use Rattle.inc_answers.specs.declared.outcome.EndKind.{EndKind}
+use Rattle.inc_answers.specs.declared.outcome.EndKind.TheVariants.{Answered, Negative, Refused}
+use Rattle.inc_answers.specs.NamedFiles.{file_at}
+use Rattle.inc_answers.specs.NearNames.{source_notes}
 use Rattle.inc_report.specs.PpText.{define_number, outcome_printed}
 use Rattle.inc_report.specs.MakeRules.{outcome_rule}
-use Rattle.inc_report.specs.Printed.{Printed, end_of, with_texts}
-use Rattle.inc_report.specs.Refusals.{NoSuchSource, BadDefinition, refusal}
+use Rattle.inc_answers.specs.Printed.{Printed, end_of, with_texts}
+use Rattle.inc_answers.specs.Refusals.{NoSuchSource, BadDefinition, refusal}
 use Rattle.inc_report.specs.SourceEndings.{ending_text, outcome_ending}
 use Rattle.inc_report.specs.StopReasons.{stop_reasons}
-use Rattle.inc_report.specs.Terms.{PpQuestion}
+use Rattle.inc_report.specs.PpTerms.{PpQuestion}
 use Rattle.inc_report.specs.declared.pp.Wanted.{Wanted}
 
 ---- one source
@@ -78,10 +78,6 @@ worse Refused e = Refused
 abbrev pub worst : List EndKind → EndKind
 worst [] = Answered
 worst (e ∷ es) = worse e (worst es)
-
--- the lines on those that name no file
-abbrev pub source_notes : Layout → (sources : List (List ℕ)) → List ℕ
-source_notes layout sources = unnamed_lines (codes "source") layout.paths (unnamed layout sources)
 
 -- what is asked for of each source: a line above it, if there are several, and texts for files, its rule for make and how it ended
 abbrev pub wanted_of : PpQuestion → Wanted

@@ -9,12 +9,12 @@ use Rattle.inc_rules.specs.Judging.{AreJudged, Judged, is_broken}
 use Rattle.inc_rules.specs.Rules.{Rule, is_left, is_right}
 use Rattle.inc_rules.specs.declared.rules.Verb.TheVariants.{NotReach}
 use Rattle.inc_report.specs.Headline.{NeverReads}
-use Rattle.inc_report.specs.NamedFiles.{sources_at}
-use Rattle.inc_report.specs.Printed.{Printed}
+use Rattle.inc_answers.specs.NamedFiles.{sources_at}
+use Rattle.inc_answers.specs.Printed.{Printed}
 use Rattle.inc_report.specs.RulesSarif.{sarif_text}
 use Rattle.inc_report.specs.RulesText.{rules_text}
-use Rattle.inc_report.specs.Terms.{Question, RuleList, named_directives, setting_in}
-use Rattle.inc_report.specs.declared.outcome.EndKind.TheVariants.{Refused}
+use Rattle.inc_answers.specs.Terms.{Question, RuleList, named_directives, setting_in}
+use Rattle.inc_answers.specs.declared.outcome.EndKind.TheVariants.{Refused}
 
 -- no preprocessing of a source that the rule is about, without the directives that the question takes as removed, reads a file of its right side
 abbrev pub NeverBreaks : Question → Listing → (sources : List Source) → Rule → Type 0

@@ -9,13 +9,13 @@ use Rattle.inc_rules.specs.Judging.{AreJudged, Judged}
 use Rattle.inc_rules.specs.RuleTexts.{joined}
 use Rattle.inc_rules.specs.Rules.{Rule}
 use Rattle.inc_text.specs.Ascii.{percent, slash}
-use Rattle.inc_report.specs.JsonTexts.{list_of, quoted, string_text}
-use Rattle.inc_report.specs.MissingNotes.{shown}
-use Rattle.inc_report.specs.Printed.{Printed, end_of}
-use Rattle.inc_report.specs.Questions.{Answer, IsAnswer, IsAnswerBy}
+use Rattle.inc_answers.specs.JsonTexts.{list_of, quoted, string_text}
+use Rattle.inc_answers.specs.MissingNotes.{shown}
+use Rattle.inc_answers.specs.Printed.{Printed, end_of}
+use Rattle.inc_answers.specs.Questions.{Answer, IsAnswer, IsAnswerBy}
 use Rattle.inc_report.specs.RulesText.{rules_kind}
-use Rattle.inc_report.specs.Strictness.{Strict, strays_of}
-use Rattle.inc_report.specs.Terms.{Question, RuleList}
+use Rattle.inc_answers.specs.Strictness.{Strict, strays_of}
+use Rattle.inc_answers.specs.Terms.{Question, RuleList}
 
 ---- places
 

@@ -1,7 +1,7 @@
 -- The text that `rules` prints: which rules are broken, and by which chains or in which files.
 use Rattle.std.specs.Prelude.{◌≡◌, ℕ, List, [], ◌++◌, None, if◌then◌else◌, codes, flat_map, length, map}
 use Rattle.std.specs.List.{list_any}
-use Rattle.inc_report.specs.Terms.{Question}
+use Rattle.inc_answers.specs.Terms.{Question}
 use Rattle.inc_lookup.specs.Given.{Given}
 use Rattle.inc_lookup.specs.Projects.{Layout, Listing, path_at}
 use Rattle.inc_graph.specs.IncludeGraph.{Graph}
@@ -9,14 +9,14 @@ use Rattle.inc_rules.specs.Judging.{AreJudged, Judged, is_broken}
 use Rattle.inc_rules.specs.Rules.{Rule}
 use Rattle.inc_check.specs.Certificates.{marks_of}
 use Rattle.inc_check.specs.Texts.{line_text}
-use Rattle.inc_report.specs.MarkTexts.{chains_text}
-use Rattle.inc_report.specs.Numbers.{count_text}
-use Rattle.inc_report.specs.Printed.{Printed, end_of}
-use Rattle.inc_report.specs.Questions.{Answer, IsAnswer, IsAnswerBy}
-use Rattle.inc_report.specs.Strictness.{Strict, strays_of}
-use Rattle.inc_report.specs.WhyText.{unresolved_text}
-use Rattle.inc_report.specs.declared.outcome.EndKind.{EndKind}
-use Rattle.inc_report.specs.declared.outcome.EndKind.TheVariants.{Answered, Negative}
+use Rattle.inc_answers.specs.MarkTexts.{chains_text}
+use Rattle.inc_answers.specs.Numbers.{count_text}
+use Rattle.inc_answers.specs.Printed.{Printed, end_of}
+use Rattle.inc_answers.specs.Questions.{Answer, IsAnswer, IsAnswerBy}
+use Rattle.inc_answers.specs.Strictness.{Strict, strays_of}
+use Rattle.inc_answers.specs.WhyText.{unresolved_text}
+use Rattle.inc_answers.specs.declared.outcome.EndKind.{EndKind}
+use Rattle.inc_answers.specs.declared.outcome.EndKind.TheVariants.{Answered, Negative}
 
 -- the files that do not include what they must, each on a line
 abbrev pub lacking_text : Layout → List ℕ → List ℕ

@@ -10,7 +10,7 @@ use Rattle.inc_macro.specs.declared.faults.DefineFault.TheVariants as define
 use Rattle.inc_pp.specs.declared.causes.Cause.{Cause}
 use Rattle.inc_pp.specs.declared.causes.Cause.TheVariants as cause
 use Rattle.inc_pp.specs.declared.causes.Stop.{Stop}
-use Rattle.inc_report.specs.FaultReasons.{balance_words, reason_line}
+use Rattle.inc_answers.specs.FaultReasons.{balance_words, reason_line}
 
 -- a fault of a definition in words; that memory ran out is none
 abbrev pub define_words : DefineFault → List ℕ

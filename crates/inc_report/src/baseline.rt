@@ -6,32 +6,32 @@ ghost use Rattle.inc_graph.specs.IncludeGraph.{IsSound};
 ghost use Rattle.inc_lookup.specs.Given.{HoldsOfGiven};
 ghost use Rattle.inc_lookup.specs.Projects.{with_path};
 ghost use Rattle.inc_report.specs.BaselineText.{IsBaseline, IsBaselineBy, IsBaselineKept, IsShownAnyhow, baseline_line, baseline_text, beside_text, header_text, led_path, rules_form};
-ghost use Rattle.inc_report.specs.DirectiveNames.{kept_kind};
-ghost use Rattle.inc_report.specs.Documents.{AreGraphKept};
-ghost use Rattle.inc_report.specs.JsonAnswers.{about_subject};
-ghost use Rattle.inc_report.specs.Printed.{Printed};
-ghost use Rattle.inc_report.specs.Questions.{FailsAt, IsStopped, IsWithin, unread_by};
-ghost use Rattle.inc_report.specs.RuleViews.{seen_list};
-ghost use Rattle.inc_report.specs.Writing.{Prints, Writes, is_of_certificate, unread_of};
+ghost use Rattle.inc_answers.specs.DirectiveNames.{kept_kind};
+ghost use Rattle.inc_answers.specs.Documents.{AreGraphKept};
+ghost use Rattle.inc_answers.specs.JsonAnswers.{about_subject};
+ghost use Rattle.inc_answers.specs.Printed.{Printed};
+ghost use Rattle.inc_answers.specs.Questions.{FailsAt, IsStopped, IsWithin, unread_by};
+ghost use Rattle.inc_answers.specs.RuleViews.{seen_list};
+ghost use Rattle.inc_answers.specs.Writing.{Prints, Writes, is_of_certificate, unread_of};
 ghost use Rattle.inc_directive.specs.KindViews.{seen_kind};
 ghost use Rattle.inc_rules.specs.Breaking.{AreBreaking};
-ghost use Rattle.inc_report.specs.Sending.{Sends};
+ghost use Rattle.inc_answers.specs.Sending.{Sends};
 ghost use Rattle.inc_rules.specs.Judging.{IsWithin as IsJudgedWithin};
 ghost use Rattle.inc_rules.specs.Views.{seen_judged, seen_rule};
 
-use crate::asked::{Question, RuleList};
-use crate::changes::directives_of;
-use crate::directive_names::{NameTable, put_between};
-use crate::file_texts::FileText;
-use crate::kept_sources::KeptSources;
 use crate::make_rules::path_of;
-use crate::named::{Asked, Format, NamedForm, refuse, rules_text, strays_report};
-use crate::outcome::{End, RunFault, lined};
-use crate::output::Output;
-use crate::questions::{NoGraph, find_graph, refuse_question};
+use crate::named::{Format, NamedForm, refuse, rules_text, strays_report};
 use crate::rules::{rules_kind, send_rules};
-use crate::strictness::{refuse_strays, strays_of};
-use crate::subjects::Subject;
+use inc_answers::asked::{Asked, Question, RuleList};
+use inc_answers::changes::directives_of;
+use inc_answers::directive_names::{NameTable, put_between};
+use inc_answers::file_texts::FileText;
+use inc_answers::kept_sources::KeptSources;
+use inc_answers::outcome::{End, RunFault, lined};
+use inc_answers::output::Output;
+use inc_answers::questions::{NoGraph, find_graph, refuse_question};
+use inc_answers::strictness::{refuse_strays, strays_of};
+use inc_answers::subjects::Subject;
 use inc_directive::{LineKind, Target};
 use inc_lookup::{DirectiveId, Project, Sources};
 use inc_rules::{Judged, Rule, breaking, lacking};
@@ -43,7 +43,7 @@ use std::alloc::{AllocError, Global};
 /// without these no such rule is; and writes what breaks the rules otherwise, as text or in a format: the files that do not include what they
 /// must. The text is that of [`run_rules`](crate::run_rules), and in a format as [`run_named`](crate::run_named) has it, without chains.
 ///
-/// The sources are given back with the sink. Each file is read once, as by [`run_why`](crate::run_why), and its bytes are kept until the
+/// The sources are given back with the sink. Each file is read once, as by [`run_why`](inc_answers::run_why), and its bytes are kept until the
 /// call ends. All memory is taken before the first byte is written.
 pub fn run_baseline<S: Sources, W: ByteSink>(
     alloc: Global,

@@ -1,5 +1,5 @@
 //! The smallest cut between headers and sources.
-ghost use Rattle.std.specs.Prelude.{◌≡◌, ◌<◌, ◌≤◌, None, true, false, length, map, IfSome, IfErr, IfOk};
+ghost use Rattle.std.specs.Prelude.{◌≡◌, ◌<◌, ◌≤◌, None, true, false, length, map, IfSome, IfErr};
 ghost use Rattle.std.specs.List.{All, list_all};
 ghost use Rattle.inc_lookup.specs.Given.{HoldsOfGiven};
 ghost use Rattle.inc_graph.specs.Cuts as cuts;
@@ -7,35 +7,36 @@ ghost use Rattle.inc_graph.specs.Cuts.{fixed_by, IsFixedChain};
 ghost use Rattle.inc_cut.specs.Answers.{IsCutAnswer, HasFewChains};
 ghost use Rattle.inc_check.specs.Certificates.{marks_of, chain_marks, certificate_of};
 ghost use Rattle.inc_check.specs.Texts.{is_short_mark, lines_text, times_text, chain_lines, certificate_text};
-ghost use Rattle.inc_report.specs.CutText.{WithAmounts, IsCutBy, IsFixedPrinted};
-ghost use Rattle.inc_report.specs.Fitting.{is_fit_chain, counted_as, IsFitCutOf};
+ghost use Rattle.inc_answers.specs.CutText.{WithAmounts, IsCutBy, IsFixedPrinted};
+ghost use Rattle.inc_answers.specs.Fitting.{is_fit_chain, counted_as, IsFitCutOf};
 ghost use Rattle.inc_report.specs.Headline.{CutHeadline};
-ghost use Rattle.inc_report.specs.AnswerNotes.{empty_notes};
-ghost use Rattle.inc_report.specs.Printed.{Printed};
-ghost use Rattle.inc_report.specs.Questions.{FailsAt};
-ghost use Rattle.inc_report.specs.Sending.{Sends};
-ghost use Rattle.inc_report.specs.Strictness.{Strict, open_strays_of};
-ghost use Rattle.inc_report.specs.Writing.{Prints, SendsWhole, Writes, is_of_certificate, unread_of};
+ghost use Rattle.inc_answers.specs.AnswerNotes.{empty_notes};
+ghost use Rattle.inc_answers.specs.Printed.{Printed};
+ghost use Rattle.inc_answers.specs.Questions.{FailsAt};
+ghost use Rattle.inc_answers.specs.Sending.{Sends};
+ghost use Rattle.inc_answers.specs.Strictness.{Strict, open_strays_of};
+ghost use Rattle.inc_answers.specs.Writing.{Prints, SendsWhole, Writes, is_of_certificate, unread_of};
 
-use crate::answer_notes::empty_notes;
-use crate::asked::{Limits, Question};
-use crate::edges::{send_edges, send_list};
-use crate::limits::{amounts_of, refuse_hindrance};
-use crate::lines::{send_count_line, send_number};
-use crate::missing_notes::Notes;
-use crate::outcome::{End, EndKind, RunFault, noted};
-use crate::output::Output;
-use crate::questions::{find_graph, refuse_question};
-use crate::strictness::{open_strays_of, refuse_strays};
-use inc_cut::{CountedChains, CutAnswer, PhaseSearch, smallest_cut};
+use inc_answers::answer_notes::empty_notes;
+use inc_answers::asked::{Limits, Question};
+use inc_answers::edges::{send_edges, send_list};
+use inc_answers::limits::{amounts_of, refuse_hindrance};
+use inc_answers::lines::{send_count_line, send_number};
+use inc_answers::missing_notes::Notes;
+use inc_answers::nearest_cuts::nearest_cut;
+use inc_answers::outcome::{End, EndKind, RunFault, noted};
+use inc_answers::output::Output;
+use inc_answers::questions::{find_graph, refuse_question};
+use inc_answers::strictness::{open_strays_of, refuse_strays};
+use inc_cut::{CountedChains, CutAnswer};
 use inc_graph::{Chain, EdgeId, Fixed, Graph};
 use inc_lookup::{Project, Sources};
 use inc_text::ByteSink;
-use std::alloc::{AllocError, Global};
+use std::alloc::Global;
 
 /// Writes which include directives to remove so that no header reaches a source any longer: the cheapest set that is nearest to the
 /// sources, and chains that show that none is cheaper; or a chain of fixed directives alone, where no cut exists, the empty chain where a
-/// source is a header. Files are read as by [`run_why`](crate::run_why). All memory is taken before the first byte is written.
+/// source is a header. Files are read as by [`run_why`](inc_answers::run_why). All memory is taken before the first byte is written.
 pub fn run_cut<S: Sources, W: ByteSink>(
     alloc: Global,
     project: &Project<'_>,
@@ -145,20 +146,6 @@ fn send_smallest<W: ByteSink>(
     let answer = nearest_cut(alloc, graph, fixed)?;
     let notes = empty_notes(alloc, project, graph)?;
     Ok(send_answer(out, project, graph, fixed, &answer, notes))
-}
-
-/// The smallest cut of a graph whose edges have these amounts.
-pub(crate) fn nearest_cut(
-    alloc: Global,
-    graph: &Graph,
-    fixed: &Fixed,
-) -> Result<CutAnswer, AllocError>
-    requires { length fixed.now ≡ length graph.now.edges }
-    ensures answer { IfOk result (λ answer. IsCutAnswer graph.now fixed.now answer) }
-    ensures few { IfOk result (λ answer. HasFewChains graph.now answer) }
-{
-    let mut search = PhaseSearch::new(alloc);
-    smallest_cut(alloc, graph, fixed, &mut search)
 }
 
 /// Sends a cut, or a chain of fixed edges, and says how the call ends.

@@ -3,27 +3,28 @@ ghost use Rattle.std.specs.Prelude.{◌≡◌, ◌<◌, None, false, length, rep
 ghost use Rattle.inc_lookup.specs.Given.{HoldsOfGiven};
 ghost use Rattle.inc_graph.specs.IncludeGraph.{IsSound};
 ghost use Rattle.inc_report.specs.BlankHeadline.{BlankHeadline, ChangesHeadline, PatchHeadline};
-ghost use Rattle.inc_report.specs.BlankText.{AreChangesBy, AreChangesOf, IsBlankBy, IsPatchBy};
+ghost use Rattle.inc_answers.specs.BlankText.{AreChangesBy, AreChangesOf, IsBlankBy, IsPatchBy};
 ghost use Rattle.inc_report.specs.ChangeForms.{text_in};
-ghost use Rattle.inc_report.specs.CutText.{WithAmounts};
-ghost use Rattle.inc_report.specs.KeptFiles.{AreAllKept, OfKept};
-ghost use Rattle.inc_report.specs.Questions.{FailsAt};
-ghost use Rattle.inc_report.specs.Sending.{Sends};
-ghost use Rattle.inc_report.specs.Strictness.{Strict, open_strays_of};
-ghost use Rattle.inc_report.specs.Writing.{Prints, Writes, is_of_certificate, unread_of};
+ghost use Rattle.inc_answers.specs.CutText.{WithAmounts};
+ghost use Rattle.inc_answers.specs.KeptFiles.{AreAllKept, OfKept};
+ghost use Rattle.inc_answers.specs.Questions.{FailsAt};
+ghost use Rattle.inc_answers.specs.Sending.{Sends};
+ghost use Rattle.inc_answers.specs.Strictness.{Strict, open_strays_of};
+ghost use Rattle.inc_answers.specs.Writing.{Prints, Writes, is_of_certificate, unread_of};
 
-use crate::answer_notes::empty_notes;
-use crate::asked::{Limits, Question};
-use crate::blank::send_files;
-use crate::changes::{Change, changes_of, directives_of};
-use crate::cut::{nearest_cut, send_fixed};
-use crate::kept_sources::{KeptFiles, KeptSources};
-use crate::limits::{amounts_of, refuse_hindrance};
-use crate::outcome::{End, EndKind, RunFault, noted};
-use crate::output::Output;
-use crate::patch::send_patch;
-use crate::questions::{find_graph, refuse_question};
-use crate::strictness::{open_strays_of, refuse_strays};
+use crate::cut::send_fixed;
+use inc_answers::answer_notes::empty_notes;
+use inc_answers::asked::{Limits, Question};
+use inc_answers::blank::send_files;
+use inc_answers::changes::{Change, changes_of, directives_of};
+use inc_answers::kept_sources::{KeptFiles, KeptSources};
+use inc_answers::limits::{amounts_of, refuse_hindrance};
+use inc_answers::nearest_cuts::nearest_cut;
+use inc_answers::outcome::{End, EndKind, RunFault, noted};
+use inc_answers::output::Output;
+use inc_answers::patch::send_patch;
+use inc_answers::questions::{find_graph, refuse_question};
+use inc_answers::strictness::{open_strays_of, refuse_strays};
 use inc_cut::CutAnswer;
 use inc_graph::{Fixed, Graph};
 use inc_lookup::{Project, Sources};
@@ -34,7 +35,7 @@ use std::alloc::Global;
 /// byte but LF, from the `#` to the last byte of the directive, is a space. Preprocessing these files in place of the old ones is
 /// preprocessing the old ones with the directives removed. Where no cut exists the chain of fixed directives is written.
 ///
-/// The sources are given back with the sink. Each file is read once, as by [`run_why`](crate::run_why), and its bytes are kept until the
+/// The sources are given back with the sink. Each file is read once, as by [`run_why`](inc_answers::run_why), and its bytes are kept until the
 /// call ends. All memory is taken before the first byte is written.
 pub fn run_blank<S: Sources, W: ByteSink>(
     alloc: Global,

@@ -2,13 +2,13 @@
 ghost use Rattle.std.specs.Prelude.{◌≡◌, ℕ, Bool, List, [], ◌∷◌, Option, Ok, Err};
 ghost use Rattle.std.specs.Option.{option_map_or};
 ghost use Rattle.inc_lookup.specs.Projects.{Layout, Listing};
-ghost use Rattle.inc_report.specs.GraphText.{IsGraph};
+ghost use Rattle.inc_answers.specs.GraphText.{IsGraph};
 ghost use Rattle.inc_report.specs.KeptOut.{CutKeepsHeadersOut, AnsweredCutKeepsHeadersOut, NothingUnreachedIsRead, NothingIsReadWithoutChain, UnreachedIsKeptOut};
-ghost use Rattle.inc_report.specs.NamedFiles.{file_at, files_at};
-ghost use Rattle.inc_report.specs.Printed.{Printed};
-ghost use Rattle.inc_report.specs.Terms.{Question};
-ghost use Rattle.inc_report.specs.WhoText.{IsWho};
-ghost use Rattle.inc_report.specs.WhyText.{IsWhy};
+ghost use Rattle.inc_answers.specs.NamedFiles.{file_at, files_at};
+ghost use Rattle.inc_answers.specs.Printed.{Printed};
+ghost use Rattle.inc_answers.specs.Terms.{Question};
+ghost use Rattle.inc_answers.specs.WhoText.{IsWho};
+ghost use Rattle.inc_answers.specs.WhyText.{IsWhy};
 
 /// Two answers to how a header reaches a source are the same, in their text and in how the call ends. So the clauses of `run_why`
 /// leave it one text.

@@ -1,7 +1,7 @@
 //! Rules for make, as `gcc -MD` writes them.
-ghost use Rattle.std.specs.Prelude.{◌≡◌, ◌<◌, ◌++◌, ◌∷◌, ◌&&◌, ◌||◌, ◌==◌, ℕ, List, if◌then◌else◌, length, map, nat_lt, not, reverse, IfOk, IfSome, OnOk, ◌+◌};
+ghost use Rattle.std.specs.Prelude.{◌≡◌, ◌<◌, ◌++◌, ◌∷◌, ◌&&◌, ◌||◌, ◌==◌, ℕ, List, if◌then◌else◌, length, map, reverse, IfOk, IfSome, OnOk, ◌+◌};
 ghost use Rattle.inc_lookup.specs.Projects.{path_at};
-ghost use Rattle.inc_report.specs.MakeRules.{each_once, escape, escaped, is_blank, last_component, last_place, most_columns, object_of, outcome_rule, rule_of, stem, with_file, wrapped};
+ghost use Rattle.inc_report.specs.MakeRules.{each_once, escape, escaped, is_blank, last_component, last_place, object_of, outcome_rule, rule_of, stem, wrapped};
 
 use inc_lookup::{FileId, Project};
 use inc_pp::Outcome;

@@ -8,107 +8,63 @@ ghost use Rattle.inc_graph.specs.IncludeGraph.{IsSound};
 ghost use Rattle.inc_graph.specs.MissingLists.{missing_at};
 ghost use Rattle.inc_graph.specs.Reaching.{Reaching};
 ghost use Rattle.inc_graph.specs.declared.fixing.FixedFault.TheVariants as fault;
-ghost use Rattle.inc_report.specs.CutDocument.{has_costs};
-ghost use Rattle.inc_report.specs.CutText.{IsHindrance};
-ghost use Rattle.inc_report.specs.DirectiveNames.{kept_kind, kept_name};
-ghost use Rattle.inc_report.specs.Documents.{AreGraphKept, document_text};
-ghost use Rattle.inc_report.specs.JsonAnswers.{about_subject, why_json};
-ghost use Rattle.inc_report.specs.JsonRefusals.{mark_items, refusal_json, refusal_object};
+ghost use Rattle.inc_answers.specs.CutDocument.{has_costs};
+ghost use Rattle.inc_answers.specs.CutText.{IsHindrance};
+ghost use Rattle.inc_answers.specs.DirectiveNames.{kept_kind, kept_name};
+ghost use Rattle.inc_answers.specs.Documents.{AreGraphKept, document_text};
+ghost use Rattle.inc_answers.specs.JsonAnswers.{about_subject, why_json};
+ghost use Rattle.inc_answers.specs.JsonRefusals.{mark_items, refusal_json, refusal_object};
 ghost use Rattle.inc_report.specs.NamedHeadline.{NamedHeadline};
-ghost use Rattle.inc_report.specs.NamedText.{IsHinderedKept, IsInAnyFormat, IsNamedBy, IsNamedKept, IsReport, IsRuleReport, IsStrictKept, answer_lines, answer_text, asks_headers, blocked_as, command_name, rules_answer};
-ghost use Rattle.inc_report.specs.Printed.{Printed, refused_for};
-ghost use Rattle.inc_report.specs.Questions.{FailsAt, IsStopped, IsWithin, unread_by};
-ghost use Rattle.inc_report.specs.Refusals.{NotFound, refusal_for};
-ghost use Rattle.inc_report.specs.Strictness.{asked_strays_of, stray_reasons};
-ghost use Rattle.inc_report.specs.Terms.{is_whole};
-ghost use Rattle.inc_report.specs.Told.{Chains, Edges, FixedChain, Removed, Sources, chain_found, told_printed};
-ghost use Rattle.inc_report.specs.Views.{seen_refusal};
-ghost use Rattle.inc_report.specs.RuleViews.{seen_list};
+ghost use Rattle.inc_report.specs.NamedText.{IsHinderedKept, IsInAnyFormat, IsNamedBy, IsNamedKept, IsReport, IsRuleReport, IsStrictKept, answer_lines, answer_text, blocked_as, rules_answer};
+ghost use Rattle.inc_answers.specs.CommandNames.{command_name};
+ghost use Rattle.inc_answers.specs.Printed.{Printed, refused_for};
+ghost use Rattle.inc_answers.specs.Questions.{FailsAt, IsStopped, IsWithin, unread_by};
+ghost use Rattle.inc_answers.specs.Refusals.{NotFound, refusal_for};
+ghost use Rattle.inc_answers.specs.Strictness.{asked_strays_of, stray_reasons};
+ghost use Rattle.inc_answers.specs.Terms.{is_whole};
+ghost use Rattle.inc_answers.specs.Told.{Chains, Edges, FixedChain, Removed, Sources, chain_found, told_printed};
+ghost use Rattle.inc_answers.specs.Views.{seen_refusal};
+ghost use Rattle.inc_answers.specs.RuleViews.{seen_list};
 ghost use Rattle.inc_rules.specs.Judging.{IsWithin as IsJudgedWithin};
 ghost use Rattle.inc_rules.specs.Views.{seen_judged};
-ghost use Rattle.inc_report.specs.WhyText.{why_kind, why_notes};
-ghost use Rattle.inc_report.specs.Writing.{Prints, Writes, is_of_certificate, unread_of};
+ghost use Rattle.inc_answers.specs.WhyText.{why_kind, why_notes};
+ghost use Rattle.inc_answers.specs.Writing.{Prints, Writes, is_of_certificate, unread_of};
 
-use crate::answer_notes::{definition_notes, empty_notes, unreached_notes};
-use crate::asked::{Details, Limits, Question, RuleList};
-use crate::cut::nearest_cut;
-use crate::cut_document::{ChainForm, cut_document, fixed_document};
-use crate::definition_places::definition_places;
-use crate::directive_names::NameTable;
-use crate::documents::Document;
-use crate::dot_text::{chains_dot, cut_dot, fixed_dot, graph_dot, rules_dot};
-use crate::graph_document::graph_document;
-use crate::json_answers::{cut_json, fixed_json, graph_json, who_json, why_json};
-use crate::json_refusals::{blocked_json, refusal_json, strays_json};
-use crate::kept_sources::KeptSources;
-use crate::limits::{Hindrance, amounts_of, refusal_of, send_blocked};
-use crate::mark_reasons::marks_reason;
-use crate::missing_notes::Notes;
 use crate::named_costs::{tell_costs, tell_trees};
-use crate::named_reasons::named_reasons;
-use crate::outcome::{End, EndKind, RunFault, reached_kind};
-use crate::output::Output;
-use crate::questions::{NoGraph, find_graph, refusal_of_question};
-use crate::refusals::{Refusal, refuse_for};
 use crate::rules::rules_kind;
-use crate::rules_document::rules_document;
-use crate::rules_json::rules_json;
-use crate::strictness::{open_strays_of, refuse_strays, stray_reasons, strays_of};
-use crate::subjects::{Subject, Told};
-use crate::who::{kind_of, notes_of};
-use crate::who_document::who_document;
-use crate::why_document::{reached_document, unreached_document};
+use inc_answers::answer_notes::{definition_notes, empty_notes, unreached_notes};
+use inc_answers::asked::{Asked, Details, Limits, Question, RuleList};
+use inc_answers::cut_document::{ChainForm, cut_document, fixed_document};
+use inc_answers::definition_places::definition_places;
+use inc_answers::directive_names::NameTable;
+use inc_answers::documents::Document;
+use inc_answers::dot_text::{chains_dot, cut_dot, fixed_dot, graph_dot, rules_dot};
+use inc_answers::graph_document::graph_document;
+use inc_answers::json_answers::{cut_json, fixed_json, graph_json, who_json, why_json};
+use inc_answers::json_refusals::{blocked_json, refusal_json, strays_json};
+use inc_answers::kept_sources::KeptSources;
+use inc_answers::limits::{Hindrance, amounts_of, refusal_of, send_blocked};
+use inc_answers::mark_reasons::marks_reason;
+use inc_answers::missing_notes::Notes;
+use inc_answers::named_reasons::named_reasons;
+use inc_answers::nearest_cuts::nearest_cut;
+use inc_answers::outcome::{End, EndKind, RunFault, reached_kind};
+use inc_answers::output::Output;
+use inc_answers::questions::{NoGraph, find_graph, refusal_of_question};
+use inc_answers::refusals::{Refusal, refuse_for};
+use inc_answers::rules_document::rules_document;
+use inc_answers::rules_json::rules_json;
+use inc_answers::strictness::{open_strays_of, refuse_strays, stray_reasons, strays_of};
+use inc_answers::subjects::{Subject, Told};
+use inc_answers::who::{kind_of, notes_of};
+use inc_answers::who_document::who_document;
+use inc_answers::why_document::{reached_document, unreached_document};
 use inc_cut::{CountedChains, CutAnswer};
 use inc_graph::{Cost, EdgeId, Fixed, Graph, ShortestChains, SourceChains};
 use inc_lookup::{Project, Sources};
 use inc_rules::{Judged, judge};
 use inc_text::ByteSink;
 use std::alloc::{AllocError, Global};
-
-/// What is asked.
-#[derive(Clone, Copy, Debug, PartialEq, Eq)]
-pub enum Asked {
-    /// How a header reaches a source, as [`run_why`](crate::run_why) tells it.
-    Why,
-    /// Which sources a header reaches, as [`run_who`](crate::run_who) tells it.
-    Who,
-    /// Which edges the sources reach, as [`run_graph`](crate::run_graph) tells it.
-    Graph,
-    /// Which directives to remove so that no header does, as [`run_cut`](crate::run_cut) tells it.
-    Cut,
-    /// Which rules are broken, as [`run_rules`](crate::run_rules) prints it.
-    Rules,
-    /// What includes cost, as [`run_cost`](crate::run_cost) prints it.
-    Cost,
-    /// What comes in through each file of the trees of sources, as [`run_trees`](crate::run_trees) prints it.
-    Tree,
-}
-
-impl Asked {
-    /// Whether it is about headers, too.
-    pub fn has_headers(self) -> bool
-        ensures { result ≡ asks_headers self }
-    {
-        match self {
-            Asked::Graph | Asked::Rules | Asked::Cost | Asked::Tree => false,
-            _ => true,
-        }
-    }
-
-    /// The name of the command.
-    fn name(self) -> &'static [u8]
-        ensures { result.now ≡ command_name self }
-    {
-        match self {
-            Asked::Why => b"why",
-            Asked::Who => b"who",
-            Asked::Graph => b"graph",
-            Asked::Cut => b"cut",
-            Asked::Rules => b"rules",
-            Asked::Cost | Asked::Tree => b"cost",
-        }
-    }
-}
 
 /// How an answer is written in which directives stand as they are written.
 #[derive(Clone, Copy, Debug, PartialEq, Eq)]
@@ -138,7 +94,7 @@ pub struct NamedForm {
 /// them that say what they are, or as an object of JSON. Chains that are shown whole go from a source to a header. Limits count of a cut
 /// alone, rules where these are asked about, and how much is printed of costs.
 ///
-/// The sources are given back with the sink. Each file is read once, as by [`run_why`](crate::run_why), and its bytes are kept until the
+/// The sources are given back with the sink. Each file is read once, as by [`run_why`](inc_answers::run_why), and its bytes are kept until the
 /// call ends. All memory is taken before the first byte is written.
 pub fn run_named<S: Sources, W: ByteSink>(
     alloc: Global,

@@ -5,24 +5,24 @@ ghost use Rattle.inc_lookup.specs.Given.{HoldsOfGiven};
 ghost use Rattle.inc_lookup.specs.Projects.{path_at};
 ghost use Rattle.inc_check.specs.Certificates.{marks_of};
 ghost use Rattle.inc_check.specs.Texts.{line_text};
-ghost use Rattle.inc_report.specs.MarkTexts.{chains_text, list_text};
-ghost use Rattle.inc_report.specs.Questions.{FailsAt};
+ghost use Rattle.inc_answers.specs.MarkTexts.{chains_text, list_text};
+ghost use Rattle.inc_answers.specs.Questions.{FailsAt};
 ghost use Rattle.inc_report.specs.RulesHeadline.{RulesHeadline};
 ghost use Rattle.inc_report.specs.RulesText.{broken_text, judged_text, lacking_text, rules_kind, rules_text, IsRulesOf, IsRulesBy};
-ghost use Rattle.inc_report.specs.Sending.{Sends};
-ghost use Rattle.inc_report.specs.Strictness.{Strict, strays_of};
-ghost use Rattle.inc_report.specs.Writing.{Prints, Writes, is_of_certificate, unread_of};
+ghost use Rattle.inc_answers.specs.Sending.{Sends};
+ghost use Rattle.inc_answers.specs.Strictness.{Strict, strays_of};
+ghost use Rattle.inc_answers.specs.Writing.{Prints, Writes, is_of_certificate, unread_of};
 ghost use Rattle.inc_rules.specs.Judging.{IsWithin, is_broken};
 ghost use Rattle.inc_rules.specs.Views.{seen_judged, seen_rule};
 
-use crate::asked::Question;
-use crate::edges::send_list;
-use crate::lines::{send_count_line, send_line};
-use crate::outcome::{End, EndKind, RunFault, plain};
-use crate::output::Output;
-use crate::questions::{find_graph, refuse_question};
-use crate::strictness::{refuse_strays, strays_of};
-use crate::why::send_unresolved;
+use inc_answers::asked::Question;
+use inc_answers::edges::send_list;
+use inc_answers::lines::{send_count_line, send_line};
+use inc_answers::outcome::{End, EndKind, RunFault, plain};
+use inc_answers::output::Output;
+use inc_answers::questions::{find_graph, refuse_question};
+use inc_answers::strictness::{refuse_strays, strays_of};
+use inc_answers::why::send_unresolved;
 use inc_graph::{EdgeId, Graph};
 use inc_lookup::{FileId, Project, Sources};
 use inc_rules::{Judged, Rule, judge};
@@ -30,7 +30,7 @@ use inc_text::ByteSink;
 use std::alloc::Global;
 
 /// Writes how many rules there are, and each that is broken: the number of its line, then the chains that may not be there, by their
-/// directives, and the files that do not include what they must; then what [`run_graph`](crate::run_graph) writes after the edges. The
+/// directives, and the files that do not include what they must; then what [`run_graph`](inc_answers::run_graph) writes after the edges. The
 /// sources of the question are the files of the rules' left sides. Files are read when they are reached, each once. That a rule is broken
 /// is a negative answer. All memory is taken before the first byte is written.
 pub fn run_rules<'r, S: Sources, W: ByteSink>(

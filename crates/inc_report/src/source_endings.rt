@@ -1,15 +1,15 @@
 //! Lines that say which part of what is printed is of a source, and how its preprocessing ended.
-ghost use Rattle.std.specs.Prelude.{◌≡◌, ◌+◌, ◌<◌, ◌++◌, Bool, codes, decimal, flat_map, if◌then◌else◌, length, IfOk, IfSome, OnOk};
+ghost use Rattle.std.specs.Prelude.{◌≡◌, ◌+◌, ◌<◌, ◌++◌, codes, decimal, flat_map, if◌then◌else◌, length, IfOk, IfSome, OnOk};
 ghost use Rattle.inc_check.specs.Texts.{line_text};
 ghost use Rattle.inc_report.specs.NoOutcomes.{stop_line};
-ghost use Rattle.inc_report.specs.Numbers.{directive_text, point_text};
+ghost use Rattle.inc_answers.specs.Numbers.{point_text};
 ghost use Rattle.inc_report.specs.PpText.{outcome_printed, stop_text};
 ghost use Rattle.inc_report.specs.PpTexts.{title};
-ghost use Rattle.inc_report.specs.Refusals.{NoSuchSource, BadDefinition, refusal_text};
+ghost use Rattle.inc_answers.specs.Refusals.{BadDefinition, refusal_text};
 ghost use Rattle.inc_report.specs.SourceEndings.{ending_text, outcome_ending, path_byte};
 
-use crate::missing_notes::put_number;
 use crate::numbers::cause_numbers;
+use inc_answers::missing_notes::put_number;
 use inc_lookup::Project;
 use inc_pp::{Outcome, Stop};
 use itoa::Buffer;

@@ -2,8 +2,8 @@
 ghost use Rattle.std.specs.Prelude.{◌≡◌, ◌<◌, IfOk, IfSome, length};
 ghost use Rattle.inc_report.specs.StopReasons.{cause_words, condition_words, define_words, expand_words, stop_reason, stop_reasons};
 
-use crate::fault_reasons::{balance_words, reason_line};
-use crate::missing_notes::Notes;
+use inc_answers::fault_reasons::{balance_words, reason_line};
+use inc_answers::missing_notes::Notes;
 use inc_cond::CondFault;
 use inc_expand::ExpandFault;
 use inc_lookup::Project;

@@ -1,8 +1,9 @@
 //! Certificates whose source gives little at a time, ends early or fails.
 use crate::projects::files_of;
 use crate::sinks::Sink;
+use inc_answers::{End, EndKind, Limits, Question, RunFault};
 use inc_lookup::{HeldFiles, Project};
-use inc_report::{End, EndKind, Limits, Question, RunFault, run_check};
+use inc_report::run_check;
 use inc_text::{Language, Reading, Writing};
 use std::alloc::Global;
 use std::io;

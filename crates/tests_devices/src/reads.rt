@@ -1,8 +1,8 @@
 //! Which files are read for an answer, and readings that fail.
 use crate::projects::files_of;
 use crate::sinks::Sink;
+use inc_answers::{End, EndKind, Question, RunFault, run_why};
 use inc_lookup::{FileId, HeldFiles, Project, Sources};
-use inc_report::{End, EndKind, Question, RunFault, run_why};
 use inc_text::{Language, ReadFault, Writing};
 use std::alloc::Global;
 use std::test::Fail;

@@ -1,8 +1,9 @@
 //! Questions about several sources and several headers.
 use crate::projects::files_of;
 use crate::sinks::Sink;
+use inc_answers::{EndKind, Limits, Question, run_why};
 use inc_lookup::{HeldFiles, Project};
-use inc_report::{EndKind, Limits, Question, run_check, run_cut, run_why};
+use inc_report::{run_check, run_cut};
 use inc_text::{Language, Reading, Writing};
 use std::alloc::Global;
 use std::test::Fail;

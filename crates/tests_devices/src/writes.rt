@@ -1,10 +1,9 @@
 //! What is written where a writer is full, and of a source that is too long.
 use crate::projects::files_of;
 use crate::sinks::Sink;
+use inc_answers::{End, EndKind, Limits, Question, RunFault, ScanForm, run_scan, run_why};
 use inc_lookup::{HeldFiles, Project};
-use inc_report::{
-    End, EndKind, Limits, Question, RunFault, ScanForm, run_blank, run_scan, run_why,
-};
+use inc_report::run_blank;
 use inc_text::{Language, Writing};
 use std::alloc::Global;
 use std::process::Abort;

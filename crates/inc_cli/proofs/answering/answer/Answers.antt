@@ -1,6 +1,6 @@
 use Rattle.std.proofs.Common.{◌∙◌, Option, map, subst, sym}
 use Rattle.inc_inputs.specs.Inputs.{listed}
-use Rattle.inc_report.specs.Questions.{FailsAt}
+use Rattle.inc_answers.specs.Questions.{FailsAt}
 use Rattle.inc_report.specs.declared.named.NamedForm.{NamedForm}
 use Rattle.inc_cli.specs.Questions.{IsKnownIn, Prints}
 use Rattle.inc_cli.specs.Views.{asked_in, output_of, seen_command}

@@ -2,7 +2,7 @@ use Rattle.std.proofs.Common.{◌≡◌, subst}
 use Rattle.inc_lookup.specs.Given.{HoldsOfGiven}
 use Rattle.inc_report.specs.NamedHeadline.{NamedHeadline}
 use Rattle.inc_report.specs.NamedText.{IsNamedBy}
-use Rattle.inc_report.specs.Terms.{Details}
+use Rattle.inc_answers.specs.Terms.{Details}
 use Rattle.inc_cli.specs.Commands.{details_of}
 use Rattle.inc_cli.specs.Questions.{Content, Promise}
 use Rattle.inc_cli.specs.Views.{seen_command}

@@ -3,18 +3,18 @@ use Rattle.inc_rules.specs.Views.{seen_rule}
 use Rattle.inc_lookup.specs.Given.{HoldsOfGiven}
 use Rattle.inc_report.specs.BaselineText.{IsBaselineBy}
 use Rattle.inc_report.specs.BlankHeadline.{BlankHeadline, PatchHeadline}
-use Rattle.inc_report.specs.BlankText.{IsBlankBy, IsPatchBy}
-use Rattle.inc_report.specs.CostText.{IsCostBy}
-use Rattle.inc_report.specs.CutText.{IsCutBy}
-use Rattle.inc_report.specs.GraphText.{IsGraphBy}
+use Rattle.inc_answers.specs.BlankText.{IsBlankBy, IsPatchBy}
+use Rattle.inc_answers.specs.CostText.{IsCostBy}
+use Rattle.inc_answers.specs.CutText.{IsCutBy}
+use Rattle.inc_answers.specs.GraphText.{IsGraphBy}
 use Rattle.inc_report.specs.Headline.{CutHeadline}
-use Rattle.inc_report.specs.RuleViews.{seen_list}
+use Rattle.inc_answers.specs.RuleViews.{seen_list}
 use Rattle.inc_report.specs.RulesSarif.{IsSarifBy}
 use Rattle.inc_report.specs.RulesText.{IsRulesBy}
-use Rattle.inc_report.specs.TreeText.{AreTreesBy}
-use Rattle.inc_report.specs.WhoText.{IsWhoBy}
-use Rattle.inc_report.specs.WhyText.{IsWhyBy}
-use Rattle.inc_report.specs.declared.trees.TreeForm.TheVariants as trees
+use Rattle.inc_answers.specs.TreeText.{AreTreesBy}
+use Rattle.inc_answers.specs.WhoText.{IsWhoBy}
+use Rattle.inc_answers.specs.WhyText.{IsWhyBy}
+use Rattle.inc_answers.specs.declared.trees.TreeForm.TheVariants as trees
 use Rattle.inc_cli.specs.Questions.{Content, Promise}
 use Rattle.inc_cli.proofs.ListedReadings.{holds, prints, reading}
 use Rattle.inc_cli.proofs.answering.answer_text.Goals as goal

@@ -3,7 +3,7 @@ use Rattle.inc_lookup.specs.Given.{HoldsOfGiven}
 use Rattle.inc_inputs.specs.Reports.{Report}
 use Rattle.inc_inputs.specs.declared.inputs.ListedFiles.{ListedFiles}
 use Rattle.inc_report.specs.BaselineText.{IsBaselineBy}
-use Rattle.inc_report.specs.RuleViews.{seen_list}
+use Rattle.inc_answers.specs.RuleViews.{seen_list}
 use Rattle.inc_cli.specs.Outputs.{Answer}
 use Rattle.inc_cli.specs.Questions.{Content, Promise, writes_told}
 use Rattle.inc_cli.specs.Views.{seen_end}
@@ -25,7 +25,6 @@ returns g c Content limits groups not =
     let told = c.end_of-told.ensures (told_before puts name _ _ _ _ steps not) in
     record {
       result = c.run_baseline-ended.result.0;
-      hindrance = c.get-hindrance.result;
       last = c.write_beside.new.inputs;
       certificate = λ _. c.run_baseline-ended.ensures.certificate;
       prints =
@@ -46,7 +45,6 @@ returns g c Promise limits groups not =
     let told = c.end_of-told.ensures (told_before puts name _ _ _ _ steps not) in
     record {
       result = c.run_baseline-ended.result.0;
-      hindrance = c.get-hindrance.result;
       last = c.write_beside.new.inputs;
       certificate = λ _. c.run_baseline-ended.ensures.certificate;
       prints =

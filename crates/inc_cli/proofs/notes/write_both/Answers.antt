@@ -1,5 +1,5 @@
 use Rattle.inc_text.specs.Devices.{AppendsFront}
-use Rattle.inc_report.proofs.SendingLemmas.{front_then}
+use Rattle.inc_answers.proofs.SendingLemmas.{front_then}
 use Rattle.inc_cli.proofs.Fronts.{front_longer, on_err, on_err_then}
 use Rattle.inc_cli.proofs.notes.write_both.Goals as goal
 

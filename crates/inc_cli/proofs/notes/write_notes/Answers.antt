@@ -19,11 +19,11 @@ returns-clause-whole g c =
     let is : c.deref.result.now ++ (c.text.result.now ++ c.text-stops.result.now) ≡ notes_of (answer_in c.args.answer.now) =
     ap₂ (λ (xs ys : List ℕ). xs ++ ys) c.deref.ensures.value (ap₂ (λ (xs ys : List ℕ). xs ++ ys) c.text.ensures c.text-stops.ensures) in
     rw c.if-is_quiet.false
-    (subst (λ (t : List ℕ). OnOk c.write_each.result (Appends (g.E.ByteSink.written c.args.messages.now) (g.E.ByteSink.written c.write_each.new.messages) t)) is c.write_each.ensures.whole)
+    (subst (λ (t : List ℕ). OnOk c.write_three.result (Appends (g.E.ByteSink.written c.args.messages.now) (g.E.ByteSink.written c.write_three.new.messages) t)) is c.write_three.ensures.whole)
 
 pub returns-clause-front : goal.returns-clause-front
 returns-clause-front g c =
     let is : c.deref.result.now ++ (c.text.result.now ++ c.text-stops.result.now) ≡ notes_of (answer_in c.args.answer.now) =
     ap₂ (λ (xs ys : List ℕ). xs ++ ys) c.deref.ensures.value (ap₂ (λ (xs ys : List ℕ). xs ++ ys) c.text.ensures c.text-stops.ensures) in
     rw c.if-is_quiet.false
-    (subst (λ (t : List ℕ). OnErr c.write_each.result (AppendsFront (g.E.ByteSink.written c.args.messages.now) (g.E.ByteSink.written c.write_each.new.messages) t)) is c.write_each.ensures.front)
+    (subst (λ (t : List ℕ). OnErr c.write_three.result (AppendsFront (g.E.ByteSink.written c.args.messages.now) (g.E.ByteSink.written c.write_three.new.messages) t)) is c.write_three.ensures.front)

@@ -2,8 +2,8 @@ use Rattle.std.proofs.Common.{◌≡◌, ◌≢◌, ◌++◌, ℕ, List, map, Ok
 use Rattle.std.specs.Io.KnownBytes.{Keeps}
 use Rattle.inc_args.specs.Views.{seen_pp}
 use Rattle.inc_lookup.specs.Projects.{Layout}
-use Rattle.inc_report.specs.declared.outcome.End.{End}
-use Rattle.inc_report.specs.declared.outcome.RunFault.{RunFault}
+use Rattle.inc_answers.specs.declared.outcome.End.{End}
+use Rattle.inc_answers.specs.declared.outcome.RunFault.{RunFault}
 use Rattle.inc_inputs.specs.Inputs.{Gives, Puts}
 use Rattle.inc_cli.specs.Outputs.{Answer, Output, ended}
 use Rattle.inc_cli.specs.Preprocessings.{IsPreprocessed, PpAsked, PrintsEach, pp_asked_for, searched, writes_beside}
@@ -17,7 +17,6 @@ use Rattle.inc_inputs.specs.Views.{macro_of, pp_texts_in}
 use Rattle.inc_text.specs.declared.languages.Language.{Language}
 use Rattle.inc_args.specs.Meaning.{Preprocessing}
 use Rattle.inc_inputs.specs.PpTexts as pp
-use Rattle.inc_inputs.specs.declared.failures.Hindrance.{Hindrance}
 use Rattle.inc_cli.proofs.BesideLemmas.{written_after}
 use Rattle.inc_cli.proofs.RunLemmas.{run_came, run_came_err, run_here}
 use Rattle.inc_cli.proofs.pp.preprocess_texts.Goals as goal
@@ -26,12 +25,12 @@ use Rattle.inc_cli.proofs.pp.preprocess_texts.Goals as goal
 abbrev asked_with : {S : Type 0} → Language → Preprocessing → (macros : List (Kind × List ℕ)) → (notes : List ℕ) → pp.PpTexts → Layout → Step S PpAsked
 asked_with language p macros notes t layout = comes_to (Ok (pp_asked_for language p macros notes t layout))
 
-made : {S : Type 0} (gives : Gives S) (puts : Puts S) (p : Preprocessing) (a b : PpAsked) (old mid new : S) (out : Output) (result : Result End RunFault) (hindrance : Hindrance)
+made : {S : Type 0} (gives : Gives S) (puts : Puts S) (p : Preprocessing) (a b : PpAsked) (old mid new : S) (out : Output) (result : Result End RunFault)
     (told answer : Result Answer Report)
-    → PrintsEach gives a old mid out result → a ≡ b → (told ≢ Err out_of_memory → told ≡ ended b.notes b.paths [] hindrance result) → answer ≢ Err out_of_memory
+    → PrintsEach gives a old mid out result → a ≡ b → (told ≢ Err out_of_memory → told ≡ ended b.notes b.paths [] result) → answer ≢ Err out_of_memory
     → writes_beside puts p told mid answer new → IsPreprocessed gives puts p b old out answer
-made gives puts p a b old mid new out result hindrance told answer prints same is not wrote =
-    (result, hindrance, mid, new, subst (λ k. PrintsEach gives k old mid out result) same prints, written_after puts p told (ended b.notes b.paths [] hindrance result) mid new answer is not wrote)
+made gives puts p a b old mid new out result told answer prints same is not wrote =
+    (result, mid, new, subst (λ k. PrintsEach gives k old mid out result) same prints, written_after puts p told (ended b.notes b.paths [] result) mid new answer is not wrote)
 
 pub returns-in-Err : goal.returns-in-Err
 returns-in-Err g c not =
@@ -53,7 +52,7 @@ returns g c not =
     let layout = c.in-Ok-named_project.project in
     let e : named_layout p.files (paths_in p.files t.list) (searched p t) ≡ Ok layout = search rules in
     let out = output_of (g.O.ByteSink.written c.args.out) (g.O.ByteSink.written c.print_each-ended.result.1) (g.O.ByteSink.has_failed c.print_each-ended.result.1) in
-    let told : seen_end c.end_of-told.result ≢ Err out_of_memory → seen_end c.end_of-told.result ≡ ended notes (paths_in p.files t.list) [] c.get-hindrance.result c.print_each-ended.result.0 = search rules in
+    let told : seen_end c.end_of-told.result ≢ Err out_of_memory → seen_end c.end_of-told.result ≡ ended notes (paths_in p.files t.list) [] c.print_each-ended.result.0 = search rules in
     run_came (named_layout p.files (paths_in p.files t.list) (searched p t)) (asked_with language p macros notes t) (IsPreprocessed gives puts p) _ _ _ layout e
     (run_here (pp_asked_for language p macros notes t layout) (IsPreprocessed gives puts p) _ _ _
-    (made gives puts p _ (pp_asked_for language p macros notes t layout) _ _ _ out _ c.get-hindrance.result (seen_end c.end_of-told.result) _ (c.print_each-ended.ensures notes) (search rules) told not (c.write_beside.ensures not)))
+    (made gives puts p _ (pp_asked_for language p macros notes t layout) _ _ _ out _ (seen_end c.end_of-told.result) _ (c.print_each-ended.ensures notes) (search rules) told not (c.write_beside.ensures not)))

@@ -1,5 +1,5 @@
 use Rattle.inc_report.specs.PpTexts.{IsNextPp, IsPpBy, wanted_of}
-use Rattle.inc_report.specs.Terms.{named_directives}
+use Rattle.inc_answers.specs.Terms.{named_directives}
 use Rattle.inc_cli.specs.Preprocessings.{FailsFor, IsPpOf}
 use Rattle.inc_cli.specs.Views.{output_of, pp_asked_in}
 use Rattle.inc_cli.proofs.ListedPrints.{each_all, unread_all}

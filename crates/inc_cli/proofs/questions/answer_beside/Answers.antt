@@ -18,15 +18,14 @@ returns g c known not =
     let name : c.unwrap_or-certificate.result.now ≡ unwrap_or (certificate_of command) [] =
     named_or c.certificate.result c.unwrap_or-certificate.result _ [] c.unwrap_or-certificate.ensures refl ∙ ap (λ o. unwrap_or o []) c.certificate.ensures in
     let told = c.end_of-told.ensures not
-    ∙ ap (λ (w : List ℕ). ended c.args.notes.items (map (λ p. p.now) c.args.paths.now) w c.get-hindrance.result c.answer-ended.result.0) name in
+    ∙ ap (λ (w : List ℕ). ended c.args.notes.items (map (λ p. p.now) c.args.paths.now) w c.answer-ended.result.0) name in
     let prints = c.answer-ended.ensures.printed known c.args.notes.items in
     record {
       result = c.answer-ended.result.0;
-      hindrance = c.get-hindrance.result;
       last = prints.new;
       certificate = c.answer-ended.ensures.certificate;
       prints = prints;
       is =
-          subst (λ (a : Result Answer Report). writes_for g.I.Inputs.puts command (ended c.args.notes.items (map (λ p. p.now) c.args.paths.now) (unwrap_or (certificate_of command) []) c.get-hindrance.result c.answer-ended.result.0)
+          subst (λ (a : Result Answer Report). writes_for g.I.Inputs.puts command (ended c.args.notes.items (map (λ p. p.now) c.args.paths.now) (unwrap_or (certificate_of command) []) c.answer-ended.result.0)
           prints.new a prints.new) (sym told) (writes_none g.I.Inputs.puts c.args.command c.in_default.not-WriteBaseline _ prints.new);
     }

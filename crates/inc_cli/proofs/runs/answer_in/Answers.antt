@@ -10,7 +10,7 @@ use Rattle.inc_cli.specs.Questions.{Content, Opens, Promise}
 use Rattle.inc_cli.specs.Runs.{no_limits}
 use Rattle.inc_cli.specs.Scans.{IsScan}
 use Rattle.inc_report.specs.declared.named.Format.{Format}
-use Rattle.inc_report.specs.declared.scan.ScanForm.{ScanForm}
+use Rattle.inc_answers.specs.declared.scan.ScanForm.{ScanForm}
 use Rattle.inc_cli.specs.Views.{output_of, seen_command, seen_end}
 use Rattle.inc_cli.proofs.runs.answer_in.Goals as goal
 

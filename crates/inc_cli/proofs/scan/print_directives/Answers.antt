@@ -1,11 +1,10 @@
 use Rattle.std.proofs.Common.{◌≡◌, ◌∙◌, ℕ, List, [], ap, codes, option_map, refl, subst, sym}
 use Rattle.inc_lookup.specs.Views.{seen_answer}
-use Rattle.inc_report.specs.ScanForms.{scan}
-use Rattle.inc_report.specs.Writing.{Writes}
+use Rattle.inc_answers.specs.ScanForms.{scan}
+use Rattle.inc_answers.specs.Writing.{Writes}
 use Rattle.inc_cli.specs.Outputs as outputs
 use Rattle.inc_cli.specs.Scans.{IsScanOf, scanned_name, scanned_title}
 use Rattle.inc_cli.specs.Views.{output_of, seen_end}
-use Rattle.inc_inputs.specs.declared.failures.Hindrance.TheVariants.{Other}
 use Rattle.inc_cli.proofs.Names.{named_or}
 use Rattle.inc_cli.proofs.scan.print_directives.Goals as goal
 
@@ -27,4 +26,4 @@ returns-in-Ok g c not =
     (subst (λ n. Writes (λ p. p ≡ scan c.args.form language n c.as_bytes-title.result.now bytes) before after failed ended) name c.run_scan_owned-ended.ensures.written)
     in
     subst (λ s. IsScanOf language c.args.form path (seen_answer s) (output_of before after failed) (seen_end c.end_of.result)) (sym c.in-Ok.is)
-    (ended, c.end_of.ensures not ∙ ap (λ (n : List ℕ). outputs.ended n [] [] Other ended) c.new.ensures.items, writes, c.run_scan_owned-ended.ensures.own)
+    (ended, c.end_of.ensures not ∙ ap (λ (n : List ℕ). outputs.ended n [] [] ended) c.new.ensures.items, writes, c.run_scan_owned-ended.ensures.own)

@@ -1,7 +1,7 @@
 use Rattle.std.proofs.Common.{◌≡◌, take}
 use Rattle.std.specs.List.{concat}
 use Rattle.inc_report.specs.BaselineText.{baseline_lines}
-use Rattle.inc_report.specs.DirectiveNames.{kept_kind}
+use Rattle.inc_answers.specs.DirectiveNames.{kept_kind}
 use Rattle.inc_report.proofs.baseline.lines_of.Given as goal
 
 -- the lines so far, and the same to find them

@@ -1,5 +1,5 @@
 use Rattle.inc_report.proofs.BaselineLemmas.{shown_anyhow, shown_plain}
-use Rattle.inc_report.proofs.WritingLemmas.{prints_all}
+use Rattle.inc_answers.proofs.WritingLemmas.{prints_all}
 use Rattle.inc_report.proofs.baseline.refuse_in.Goals as goal
 
 pub returns-in-None-clause-sent : goal.returns-in-None-clause-sent

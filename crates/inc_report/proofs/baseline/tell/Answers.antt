@@ -1,16 +1,16 @@
 use Rattle.std.proofs.Common.{[], ap, length, refl, subst}
 use Rattle.inc_text.specs.declared.languages.Language.{Language}
 use Rattle.inc_report.specs.BaselineText.{IsShown, IsStrictBaseline}
-use Rattle.inc_report.specs.KeptFiles.{OfKept}
+use Rattle.inc_answers.specs.KeptFiles.{OfKept}
 use Rattle.inc_report.specs.NamedText.{kept_sight}
-use Rattle.inc_report.specs.Printed.{Printed, answered}
-use Rattle.inc_report.specs.RuleViews.{seen_list}
-use Rattle.inc_report.specs.Terms.{Question}
-use Rattle.inc_report.specs.Writing.{Prints}
+use Rattle.inc_answers.specs.Printed.{Printed, answered}
+use Rattle.inc_answers.specs.RuleViews.{seen_list}
+use Rattle.inc_answers.specs.Terms.{Question}
+use Rattle.inc_answers.specs.Writing.{Prints}
 use Rattle.inc_report.proofs.BaselineLemmas.{baseline_given, baseline_refused}
 use Rattle.inc_report.proofs.BlankLemmas.{fails_inner}
 use Rattle.inc_report.proofs.NamedLemmas.{graph_kept}
-use Rattle.inc_report.proofs.WritingLemmas.{prints_all}
+use Rattle.inc_answers.proofs.WritingLemmas.{prints_all}
 use Rattle.inc_report.proofs.baseline.tell.Goals as goal
 
 pub tell_strictly-requires-clause-kept : goal.tell_strictly-requires-clause-kept

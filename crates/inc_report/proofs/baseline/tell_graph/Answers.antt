@@ -1,14 +1,14 @@
 use Rattle.std.proofs.Common.{◌≡◌, ◌∙◌, [], List, ℕ, ap, ap₂, map, refl, subst, sym}
 use Rattle.std.specs.List.{All}
 use Rattle.inc_report.specs.BaselineText.{IsBaseline, baseline_printed, beside_text}
-use Rattle.inc_report.specs.JsonAnswers.{About, about_subject}
-use Rattle.inc_report.specs.Printed.{end_of, with_baseline}
-use Rattle.inc_report.specs.RuleViews.{seen_list}
+use Rattle.inc_answers.specs.JsonAnswers.{About, about_subject}
+use Rattle.inc_answers.specs.Printed.{end_of, with_baseline}
+use Rattle.inc_answers.specs.RuleViews.{seen_list}
 use Rattle.inc_report.specs.RulesText.{rules_kind}
-use Rattle.inc_report.specs.Sending.{Sends}
-use Rattle.inc_report.specs.Terms.{RuleList}
-use Rattle.inc_report.specs.declared.outcome.EndKind.{EndKind}
-use Rattle.inc_report.proofs.WritingLemmas.{prints_one}
+use Rattle.inc_answers.specs.Sending.{Sends}
+use Rattle.inc_answers.specs.Terms.{RuleList}
+use Rattle.inc_answers.specs.declared.outcome.EndKind.{EndKind}
+use Rattle.inc_answers.proofs.WritingLemmas.{prints_one}
 use Rattle.inc_rules.specs.Breaking.{lacking}
 use Rattle.inc_rules.specs.Judging.{IsWithin, Judged}
 use Rattle.inc_rules.specs.Views.{seen_judged}

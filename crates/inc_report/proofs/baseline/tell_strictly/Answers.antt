@@ -1,15 +1,15 @@
 use Rattle.std.proofs.Common.{◌≡◌, ◌≢◌, ◌∙◌, List, [], Some, ap, map, subst, sym}
 use Rattle.std.proofs.lemmas.Option.{none-some, same_Some}
 use Rattle.inc_graph.specs.MissingLists.{Missing, missing_at}
-use Rattle.inc_report.specs.RuleViews.{seen_list}
-use Rattle.inc_report.specs.Strictness.{not_found}
-use Rattle.inc_report.specs.declared.named.Asked.TheVariants as asked
+use Rattle.inc_answers.specs.RuleViews.{seen_list}
+use Rattle.inc_answers.specs.Strictness.{not_found}
+use Rattle.inc_answers.specs.declared.asked.Asked.TheVariants as asked
 use Rattle.inc_report.specs.declared.named.Format.{Format}
 use Rattle.inc_report.specs.declared.named.Format.TheVariants.{Json}
 use Rattle.inc_report.proofs.BaselineLemmas.{answered_kept, strays_object, strays_text}
 use Rattle.inc_report.proofs.NamedLemmas.{no_object}
-use Rattle.inc_report.proofs.StrictLemmas.{none_by, refused_object, some_at, some_by}
-use Rattle.inc_report.proofs.WritingLemmas.{prints_all, prints_one}
+use Rattle.inc_answers.proofs.StrictLemmas.{none_by, refused_object, some_at, some_by}
+use Rattle.inc_answers.proofs.WritingLemmas.{prints_all, prints_one}
 use Rattle.inc_report.proofs.baseline.tell_strictly.Goals as goal
 
 pub returns-then-is_empty-clause-sent : goal.returns-then-is_empty-clause-sent

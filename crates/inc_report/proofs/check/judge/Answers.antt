@@ -1,12 +1,12 @@
 use Rattle.inc_lookup.proofs.GivenLemmas.{given_all}
 use Rattle.inc_report.specs.CheckText.{IsCheckOf}
-use Rattle.inc_report.specs.CutText.{WithAmounts}
-use Rattle.inc_report.specs.Strictness.{Strict, open_strays_of}
+use Rattle.inc_answers.specs.CutText.{WithAmounts}
+use Rattle.inc_answers.specs.Strictness.{Strict, open_strays_of}
 use Rattle.inc_report.proofs.ByteLemmas.{any_bytes, bytes_all}
 use Rattle.inc_report.proofs.HeadlineLemmas.{check_headline}
 use Rattle.inc_report.proofs.KnownParts.{OfKnown}
-use Rattle.inc_report.proofs.QuestionLemmas.{of_graph, of_none}
-use Rattle.inc_report.proofs.WritingLemmas.{prints_all}
+use Rattle.inc_answers.proofs.QuestionLemmas.{of_graph, of_none}
+use Rattle.inc_answers.proofs.WritingLemmas.{prints_all}
 use Rattle.inc_report.proofs.check.judge.Goals as goal
 
 pub returns-in-Ok-clause-sent : goal.returns-in-Ok-clause-sent

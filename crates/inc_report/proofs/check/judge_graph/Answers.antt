@@ -1,10 +1,10 @@
 use Rattle.inc_graph.specs.MarkedEdges.{amounts_by}
 use Rattle.inc_report.specs.CheckText.{IsCheckOf}
-use Rattle.inc_report.specs.CutText.{WithAmounts, marks_refusal}
+use Rattle.inc_answers.specs.CutText.{WithAmounts, marks_refusal}
 use Rattle.inc_report.proofs.ByteLemmas.{any_bytes, bytes_all}
-use Rattle.inc_report.proofs.CutLemmas.{unhindered}
+use Rattle.inc_answers.proofs.CutLemmas.{unhindered}
 use Rattle.inc_report.proofs.HeadlineLemmas.{unhindered_all}
-use Rattle.inc_report.proofs.WritingLemmas.{prints_all}
+use Rattle.inc_answers.proofs.WritingLemmas.{prints_all}
 use Rattle.inc_report.proofs.check.judge_graph.Goals as goal
 
 pub returns-in-Ok-clause-sent : goal.returns-in-Ok-clause-sent

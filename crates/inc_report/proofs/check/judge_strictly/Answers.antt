@@ -1,11 +1,11 @@
 use Rattle.std.proofs.Common.{◌≡◌, ◌≢◌, ◌∙◌, List, [], ap, map, subst, sym}
 use Rattle.inc_graph.specs.MissingLists.{Missing, missing_at}
 use Rattle.inc_report.specs.CheckText.{IsCheckOf}
-use Rattle.inc_report.specs.CutText.{WithAmounts}
-use Rattle.inc_report.specs.Strictness.{Strict, not_found, open_strays_of}
+use Rattle.inc_answers.specs.CutText.{WithAmounts}
+use Rattle.inc_answers.specs.Strictness.{Strict, not_found, open_strays_of}
 use Rattle.inc_report.proofs.ByteLemmas.{any_bytes, bytes_all}
-use Rattle.inc_report.proofs.StrictLemmas.{none_by, some_at, some_by, unless_none, unless_some}
-use Rattle.inc_report.proofs.WritingLemmas.{prints_all}
+use Rattle.inc_answers.proofs.StrictLemmas.{none_by, some_at, some_by, unless_none, unless_some}
+use Rattle.inc_answers.proofs.WritingLemmas.{prints_all}
 use Rattle.inc_report.proofs.check.judge_strictly.Goals as goal
 
 pub returns-then-is_empty-clause-sent : goal.returns-then-is_empty-clause-sent

@@ -1,11 +1,11 @@
 use Rattle.std.proofs.Common.{ℕ, refl, ap, inl, inr, subst, ◌∙◌}
 use Rattle.inc_report.specs.CheckText.{verdict_printed}
-use Rattle.inc_report.specs.AnswerNotes.{empty_notes}
-use Rattle.inc_report.specs.Printed.{end_of}
-use Rattle.inc_report.specs.Refusals.{Malformed, refusal}
-use Rattle.inc_report.specs.Writing.{SendsWhole}
+use Rattle.inc_answers.specs.AnswerNotes.{empty_notes}
+use Rattle.inc_answers.specs.Printed.{end_of}
+use Rattle.inc_answers.specs.Refusals.{Malformed, refusal}
+use Rattle.inc_answers.specs.Writing.{SendsWhole}
 use Rattle.inc_report.proofs.ByteLemmas.{bytes_all}
-use Rattle.inc_report.proofs.WritingLemmas.{prints_one}
+use Rattle.inc_answers.proofs.WritingLemmas.{prints_one}
 use Rattle.inc_report.proofs.check.judge_text.Goals as goal
 
 pub returns-in-Ok-clause-sent : goal.returns-in-Ok-clause-sent

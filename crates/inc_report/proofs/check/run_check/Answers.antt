@@ -1,4 +1,4 @@
-use Rattle.inc_report.proofs.WritingLemmas.{finished, finished_fault, finished_of}
+use Rattle.inc_answers.proofs.WritingLemmas.{finished, finished_fault, finished_of}
 use Rattle.inc_report.proofs.check.run_check.Goals as goal
 
 pub returns-clause-written : goal.returns-clause-written

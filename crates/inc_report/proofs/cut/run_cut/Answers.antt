@@ -1,5 +1,5 @@
 use Rattle.std.proofs.Common.{refl}
-use Rattle.inc_report.proofs.WritingLemmas.{finished, finished_fault}
+use Rattle.inc_answers.proofs.WritingLemmas.{finished, finished_fault}
 use Rattle.inc_report.proofs.cut.run_cut.Goals as goal
 
 pub returns-clause-written : goal.returns-clause-written

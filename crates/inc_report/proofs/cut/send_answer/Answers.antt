@@ -1,11 +1,11 @@
 use Rattle.std.proofs.Common.{refl, ap, inl, inr, ◌∙◌}
 use Rattle.inc_check.specs.Certificates.{certificate_of}
 use Rattle.inc_check.specs.Texts.{certificate_text}
-use Rattle.inc_report.specs.Fitting.{IsFit}
-use Rattle.inc_report.specs.AnswerNotes.{empty_notes}
-use Rattle.inc_report.specs.Printed.{answered_of, end_of}
-use Rattle.inc_report.specs.declared.outcome.EndKind.TheVariants.{Answered}
-use Rattle.inc_report.proofs.CutLemmas.{counted_within}
+use Rattle.inc_answers.specs.Fitting.{IsFit}
+use Rattle.inc_answers.specs.AnswerNotes.{empty_notes}
+use Rattle.inc_answers.specs.Printed.{answered_of, end_of}
+use Rattle.inc_answers.specs.declared.outcome.EndKind.TheVariants.{Answered}
+use Rattle.inc_answers.proofs.CutLemmas.{counted_within}
 use Rattle.inc_report.proofs.cut.send_answer.Goals as goal
 
 pub send_cut-requires-clause-chains : goal.send_cut-requires-clause-chains

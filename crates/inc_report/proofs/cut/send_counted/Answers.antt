@@ -1,8 +1,8 @@
 use Rattle.inc_check.specs.Certificates.{chain_marks}
-use Rattle.inc_report.specs.Fitting.{counted_as}
-use Rattle.inc_report.proofs.FitLemmas.{chain_fit}
-use Rattle.inc_report.proofs.SendingLemmas.{sends_then}
-use Rattle.inc_report.proofs.CutLemmas.{counted_text}
+use Rattle.inc_answers.specs.Fitting.{counted_as}
+use Rattle.inc_answers.proofs.FitLemmas.{chain_fit}
+use Rattle.inc_answers.proofs.SendingLemmas.{sends_then}
+use Rattle.inc_answers.proofs.CutLemmas.{counted_text}
 use Rattle.inc_report.proofs.cut.send_counted.Goals as goal
 
 pub returns-clause-sent : goal.returns-clause-sent

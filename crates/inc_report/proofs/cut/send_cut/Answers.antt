@@ -5,12 +5,12 @@ use Rattle.std.proofs.lemmas.Option.{get_or_from_slice_get}
 use Rattle.inc_graph.specs.Cuts.{Counted}
 use Rattle.inc_check.specs.Certificates.{chain_marks}
 use Rattle.inc_check.specs.Texts.{lines_text, chain_lines}
-use Rattle.inc_report.specs.Fitting.{is_fit_chain}
-use Rattle.inc_report.specs.Sending.{Sends}
-use Rattle.inc_report.proofs.CutLemmas.{certificate_sent, chain_at, chain_is}
-use Rattle.inc_report.proofs.FitLemmas.{fit_more}
-use Rattle.inc_report.proofs.SendingLemmas.{sends_then}
-use Rattle.inc_report.proofs.WhyLemmas.{flat_map-more}
+use Rattle.inc_answers.specs.Fitting.{is_fit_chain}
+use Rattle.inc_answers.specs.Sending.{Sends}
+use Rattle.inc_answers.proofs.CutLemmas.{certificate_sent, chain_at, chain_is}
+use Rattle.inc_answers.proofs.FitLemmas.{fit_more}
+use Rattle.inc_answers.proofs.SendingLemmas.{sends_then}
+use Rattle.inc_answers.proofs.WhyLemmas.{flat_map-more}
 use Rattle.inc_report.proofs.cut.send_cut.Goals as goal
 
 pub send_counted-requires-clause-edges : goal.send_counted-requires-clause-edges

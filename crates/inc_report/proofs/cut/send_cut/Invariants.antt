@@ -3,8 +3,8 @@ use Rattle.std.specs.Prelude.{flat_map}
 use Rattle.std.specs.List.{list_all}
 use Rattle.inc_check.specs.Certificates.{chain_marks}
 use Rattle.inc_check.specs.Texts.{lines_text, chain_lines}
-use Rattle.inc_report.specs.Fitting.{is_fit_chain}
-use Rattle.inc_report.specs.Sending.{Sends}
+use Rattle.inc_answers.specs.Fitting.{is_fit_chain}
+use Rattle.inc_answers.specs.Sending.{Sends}
 use Rattle.inc_report.proofs.cut.send_cut.Given as goal
 
 -- the chains so far are sent, and a text can hold them

@@ -2,10 +2,10 @@ use Rattle.std.proofs.Common.{refl, ap, ◌∙◌}
 use Rattle.std.specs.Prelude.{codes}
 use Rattle.inc_graph.proofs.Walks.{chain-within}
 use Rattle.inc_check.specs.Certificates.{marks_of}
-use Rattle.inc_report.specs.MarkTexts.{list_text}
-use Rattle.inc_report.specs.AnswerNotes.{empty_notes}
-use Rattle.inc_report.specs.Printed.{negative_of, end_of}
-use Rattle.inc_report.specs.declared.outcome.EndKind.TheVariants.{Negative}
+use Rattle.inc_answers.specs.MarkTexts.{list_text}
+use Rattle.inc_answers.specs.AnswerNotes.{empty_notes}
+use Rattle.inc_answers.specs.Printed.{negative_of, end_of}
+use Rattle.inc_answers.specs.declared.outcome.EndKind.TheVariants.{Negative}
 use Rattle.inc_report.proofs.cut.send_fixed.Goals as goal
 
 pub send_list-requires-clause-edges : goal.send_list-requires-clause-edges

@@ -1,11 +1,11 @@
 use Rattle.inc_lookup.proofs.GivenLemmas.{given_all}
-use Rattle.inc_report.specs.CutText.{WithAmounts, IsCutOf}
-use Rattle.inc_report.specs.Fitting.{IsFitCutOf}
-use Rattle.inc_report.specs.Strictness.{Strict, open_strays_of}
+use Rattle.inc_answers.specs.CutText.{WithAmounts, IsCutOf}
+use Rattle.inc_answers.specs.Fitting.{IsFitCutOf}
+use Rattle.inc_answers.specs.Strictness.{Strict, open_strays_of}
 use Rattle.inc_report.proofs.HeadlineLemmas.{cut_headline, fit_strictly}
 use Rattle.inc_report.proofs.KnownParts.{OfKnown}
-use Rattle.inc_report.proofs.QuestionLemmas.{of_graph, of_none}
-use Rattle.inc_report.proofs.WritingLemmas.{prints_all}
+use Rattle.inc_answers.proofs.QuestionLemmas.{of_graph, of_none}
+use Rattle.inc_answers.proofs.WritingLemmas.{prints_all}
 use Rattle.inc_report.proofs.cut.separate.Goals as goal
 
 pub returns-in-Ok-clause-sent : goal.returns-in-Ok-clause-sent

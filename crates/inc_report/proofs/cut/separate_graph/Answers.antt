@@ -1,6 +1,6 @@
-use Rattle.inc_report.specs.Fitting.{IsFitCutOf}
-use Rattle.inc_report.proofs.CutLemmas.{unhindered}
-use Rattle.inc_report.proofs.WritingLemmas.{prints_all}
+use Rattle.inc_answers.specs.Fitting.{IsFitCutOf}
+use Rattle.inc_answers.proofs.CutLemmas.{unhindered}
+use Rattle.inc_answers.proofs.WritingLemmas.{prints_all}
 use Rattle.inc_report.proofs.cut.separate_graph.Goals as goal
 
 pub returns-in-Ok-clause-sent : goal.returns-in-Ok-clause-sent

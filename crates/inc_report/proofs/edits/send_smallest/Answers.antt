@@ -5,12 +5,12 @@ use Rattle.inc_graph.specs.IncludeGraph.{Edge}
 use Rattle.inc_lookup.specs.declared.projects.DirectiveId.{DirectiveId}
 use Rattle.inc_check.proofs.AcceptedCuts.{all_editable-within}
 use Rattle.inc_report.specs.ChangeForms.{text_in}
-use Rattle.inc_report.specs.Changes.{Change, changes}
-use Rattle.inc_report.specs.KeptFiles.{kept_at}
-use Rattle.inc_report.specs.AnswerNotes.{empty_notes}
-use Rattle.inc_report.specs.Printed.{answered_of, end_of}
-use Rattle.inc_report.specs.declared.outcome.EndKind.TheVariants.{Answered}
-use Rattle.inc_report.proofs.CutDirectives.{directives_all, cut_rises}
+use Rattle.inc_answers.specs.Changes.{Change, changes}
+use Rattle.inc_answers.specs.KeptFiles.{kept_at}
+use Rattle.inc_answers.specs.AnswerNotes.{empty_notes}
+use Rattle.inc_answers.specs.Printed.{answered_of, end_of}
+use Rattle.inc_answers.specs.declared.outcome.EndKind.TheVariants.{Answered}
+use Rattle.inc_answers.proofs.CutDirectives.{directives_all, cut_rises}
 use Rattle.inc_report.proofs.edits.send_smallest.Goals as goal
 
 pub changes_of-requires-clause-within : goal.changes_of-requires-clause-within

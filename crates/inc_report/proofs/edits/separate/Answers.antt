@@ -1,12 +1,12 @@
 use Rattle.std.proofs.Common.{[], length, refl}
-use Rattle.inc_report.specs.BlankText.{AreChangesOf}
+use Rattle.inc_answers.specs.BlankText.{AreChangesOf}
 use Rattle.inc_report.specs.ChangeForms.{text_in}
-use Rattle.inc_report.specs.CutText.{WithAmounts}
-use Rattle.inc_report.specs.KeptFiles.{OfKept}
-use Rattle.inc_report.specs.Printed.{Printed, answered}
-use Rattle.inc_report.specs.Strictness.{Strict, open_strays_of}
+use Rattle.inc_answers.specs.CutText.{WithAmounts}
+use Rattle.inc_answers.specs.KeptFiles.{OfKept}
+use Rattle.inc_answers.specs.Printed.{Printed, answered}
+use Rattle.inc_answers.specs.Strictness.{Strict, open_strays_of}
 use Rattle.inc_report.proofs.BlankLemmas.{all_kept, of_kept, of_no_graph, fails_inner, kept_headline, refused_headline}
-use Rattle.inc_report.proofs.WritingLemmas.{prints_all}
+use Rattle.inc_answers.proofs.WritingLemmas.{prints_all}
 use Rattle.inc_report.proofs.edits.separate.Goals as goal
 
 pub separate_strictly-requires-clause-kept : goal.separate_strictly-requires-clause-kept

@@ -1,13 +1,13 @@
 use Rattle.std.proofs.Common.{[], ap, length, refl, subst}
 use Rattle.inc_text.specs.declared.languages.Language.{Language}
-use Rattle.inc_report.specs.KeptFiles.{OfKept}
+use Rattle.inc_answers.specs.KeptFiles.{OfKept}
 use Rattle.inc_report.specs.NamedText.{IsInFormat, IsStrictOf, kept_sight}
-use Rattle.inc_report.specs.Printed.{Printed, answered}
-use Rattle.inc_report.specs.Terms.{Question}
-use Rattle.inc_report.specs.Writing.{Prints}
+use Rattle.inc_answers.specs.Printed.{Printed, answered}
+use Rattle.inc_answers.specs.Terms.{Question}
+use Rattle.inc_answers.specs.Writing.{Prints}
 use Rattle.inc_report.proofs.BlankLemmas.{fails_inner}
 use Rattle.inc_report.proofs.NamedLemmas.{graph_kept, named_given, named_refused}
-use Rattle.inc_report.proofs.WritingLemmas.{prints_all}
+use Rattle.inc_answers.proofs.WritingLemmas.{prints_all}
 use Rattle.inc_report.proofs.named.answer.Goals as goal
 
 pub answer_strictly-requires-clause-kept : goal.answer_strictly-requires-clause-kept

@@ -1,11 +1,11 @@
 use Rattle.std.proofs.Common.{length, subst}
-use Rattle.inc_report.specs.FileSizes.{kept_sizes}
-use Rattle.inc_report.specs.JsonAnswers.{about_subject}
+use Rattle.inc_answers.specs.FileSizes.{kept_sizes}
+use Rattle.inc_answers.specs.JsonAnswers.{about_subject}
 use Rattle.inc_report.specs.NamedText.{AreTreesReported, IsRuleReport, IsCostReport}
-use Rattle.inc_report.specs.Terms.{Details, is_whole}
-use Rattle.inc_report.specs.Told.{told_printed}
+use Rattle.inc_answers.specs.Terms.{Details, is_whole}
+use Rattle.inc_answers.specs.Told.{told_printed}
 use Rattle.inc_report.proofs.NamedLemmas.{cost_report, graph_report, rule_report, tree_report, who_report, why_report}
-use Rattle.inc_report.proofs.WritingLemmas.{prints_one}
+use Rattle.inc_answers.proofs.WritingLemmas.{prints_one}
 use Rattle.inc_report.proofs.named.answer_graph.Goals as goal
 
 pub returns-in_ok-explain-in-Why-clause-sent : goal.returns-in_ok-explain-in-Why-clause-sent

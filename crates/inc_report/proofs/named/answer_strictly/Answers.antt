@@ -1,9 +1,9 @@
 use Rattle.std.proofs.Common.{◌≡◌, ◌≢◌, ◌∙◌, List, [], ap, map, subst, sym}
 use Rattle.inc_graph.specs.MissingLists.{Missing, missing_at}
-use Rattle.inc_report.specs.Strictness.{not_found}
+use Rattle.inc_answers.specs.Strictness.{not_found}
 use Rattle.inc_report.proofs.NamedLemmas.{no_object, strict_none, strict_object, strict_text}
-use Rattle.inc_report.proofs.StrictLemmas.{none_by, refused_object, some_at, some_by}
-use Rattle.inc_report.proofs.WritingLemmas.{prints_all, prints_one}
+use Rattle.inc_answers.proofs.StrictLemmas.{none_by, refused_object, some_at, some_by}
+use Rattle.inc_answers.proofs.WritingLemmas.{prints_all, prints_one}
 use Rattle.inc_report.proofs.named.answer_strictly.Goals as goal
 
 pub returns-then-is_empty-clause-sent : goal.returns-then-is_empty-clause-sent

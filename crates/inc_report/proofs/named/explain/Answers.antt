@@ -1,7 +1,7 @@
 use Rattle.std.proofs.Common.{subst, sym}
 use Rattle.inc_graph.specs.Chains.{AreChainsByLast, IsShortestOrNone}
 use Rattle.inc_graph.specs.IncludeGraph.{Graph}
-use Rattle.inc_report.specs.Told.{Chains, chain_found}
+use Rattle.inc_answers.specs.Told.{Chains, chain_found}
 use Rattle.inc_report.proofs.NamedLemmas.{printed_same}
 use Rattle.inc_report.proofs.named.explain.Goals as goal
 

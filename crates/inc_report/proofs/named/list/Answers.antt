@@ -1,7 +1,7 @@
 use Rattle.std.proofs.Common.{List, ℕ, ap₂}
-use Rattle.inc_report.specs.Printed.{end_of}
-use Rattle.inc_report.specs.Told.{Edges}
-use Rattle.inc_report.specs.declared.outcome.EndKind.TheVariants.{Answered}
+use Rattle.inc_answers.specs.Printed.{end_of}
+use Rattle.inc_answers.specs.Told.{Edges}
+use Rattle.inc_answers.specs.declared.outcome.EndKind.TheVariants.{Answered}
 use Rattle.inc_report.proofs.NamedLemmas.{printed_as}
 use Rattle.inc_report.proofs.named.list.Goals as goal
 

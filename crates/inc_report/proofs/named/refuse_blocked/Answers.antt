@@ -1,11 +1,11 @@
 use Rattle.std.proofs.Common.{◌∙◌, List, ap, sym, ℕ}
 use Rattle.inc_graph.specs.declared.graphs.Blocker.{Blocker}
-use Rattle.inc_report.specs.DirectiveNames.{kept_kind}
-use Rattle.inc_report.specs.JsonRefusals.{refusal_json}
-use Rattle.inc_report.specs.NamedText.{command_name}
-use Rattle.inc_report.specs.Refusals.{Blocked}
+use Rattle.inc_answers.specs.DirectiveNames.{kept_kind}
+use Rattle.inc_answers.specs.JsonRefusals.{refusal_json}
+use Rattle.inc_answers.specs.CommandNames.{command_name}
+use Rattle.inc_answers.specs.Refusals.{Blocked}
 use Rattle.inc_report.proofs.NamedLemmas.{as_object, as_text, blocked_made, no_object}
-use Rattle.inc_report.proofs.WritingLemmas.{prints_one}
+use Rattle.inc_answers.proofs.WritingLemmas.{prints_one}
 use Rattle.inc_report.proofs.named.refuse_blocked.Goals as goal
 
 pub returns-in-Gcc : goal.returns-in-Gcc

@@ -1,6 +1,6 @@
-use Rattle.inc_report.proofs.MarkReasonLemmas.{refused_memory}
+use Rattle.inc_answers.proofs.MarkReasonLemmas.{refused_memory}
 use Rattle.inc_report.proofs.NamedLemmas.{by_all, by_mark}
-use Rattle.inc_report.proofs.WritingLemmas.{prints_all}
+use Rattle.inc_answers.proofs.WritingLemmas.{prints_all}
 use Rattle.inc_report.proofs.named.refuse_cut.Goals as goal
 
 pub returns-in-Blocked-clause-sent : goal.returns-in-Blocked-clause-sent

@@ -1,6 +1,6 @@
 use Rattle.std.proofs.Common.{◌∙◌, ap, map, subst, sym}
 use Rattle.std.specs.List.{All}
-use Rattle.inc_report.specs.JsonAnswers.{about_subject}
+use Rattle.inc_answers.specs.JsonAnswers.{about_subject}
 use Rattle.inc_report.specs.NamedText.{rules_answer}
 use Rattle.inc_report.specs.RulesText.{rules_kind}
 use Rattle.inc_report.proofs.NamedLemmas.{printed_same}

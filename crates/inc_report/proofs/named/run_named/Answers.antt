@@ -1,7 +1,7 @@
 use Rattle.std.proofs.Common.{refl}
 use Rattle.inc_lookup.proofs.GivenLemmas.{given_all}
 use Rattle.inc_report.proofs.NamedLemmas.{named_headline}
-use Rattle.inc_report.proofs.WritingLemmas.{finished, finished_fault, prints_all}
+use Rattle.inc_answers.proofs.WritingLemmas.{finished, finished_fault, prints_all}
 use Rattle.inc_report.proofs.named.run_named.Goals as goal
 
 pub returns-clause-written : goal.returns-clause-written

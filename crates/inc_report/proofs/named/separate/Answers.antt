@@ -1,10 +1,10 @@
 use Rattle.std.proofs.Common.{◌≡◌, ◌∙◌, None, ap, subst}
 use Rattle.inc_graph.specs.MarkedEdges.{amounts_by, marks_fault}
-use Rattle.inc_report.specs.CutDocument.{has_costs}
+use Rattle.inc_answers.specs.CutDocument.{has_costs}
 use Rattle.inc_report.specs.NamedText.{IsHinderedKept}
-use Rattle.inc_report.specs.Terms.{Details, Limits, is_whole}
+use Rattle.inc_answers.specs.Terms.{Details, Limits, is_whole}
 use Rattle.inc_report.proofs.NamedLemmas.{cut_report, hindered}
-use Rattle.inc_report.proofs.WritingLemmas.{prints_all, prints_one}
+use Rattle.inc_answers.proofs.WritingLemmas.{prints_all, prints_one}
 use Rattle.inc_report.proofs.named.separate.Goals as goal
 
 pub returns-in_ok-smallest-in-Ok-clause-sent : goal.returns-in_ok-smallest-in-Ok-clause-sent

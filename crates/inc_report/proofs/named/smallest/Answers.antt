@@ -1,5 +1,5 @@
 use Rattle.inc_graph.proofs.Walks.{chain-within}
-use Rattle.inc_report.proofs.CutLemmas.{counted_within}
+use Rattle.inc_answers.proofs.CutLemmas.{counted_within}
 use Rattle.inc_report.proofs.named.smallest.Goals as goal
 
 pub cut_text-requires-clause-chains : goal.cut_text-requires-clause-chains

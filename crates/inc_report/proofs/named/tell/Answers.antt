@@ -1,7 +1,7 @@
-use Rattle.inc_report.specs.Told.{Sources}
+use Rattle.inc_answers.specs.Told.{Sources}
 use Rattle.inc_report.proofs.NamedLemmas.{printed_same}
-use Rattle.inc_report.proofs.WhoLemmas.{reaching-within}
-use Rattle.inc_report.proofs.WhyLemmas.{chains-within}
+use Rattle.inc_answers.proofs.WhoLemmas.{reaching-within}
+use Rattle.inc_answers.proofs.WhyLemmas.{chains-within}
 use Rattle.inc_report.proofs.named.tell.Goals as goal
 
 pub who_text-requires-clause-edges : goal.who_text-requires-clause-edges

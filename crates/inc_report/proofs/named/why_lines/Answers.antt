@@ -1,8 +1,8 @@
 use Rattle.std.proofs.Common.{Bool, Some, subst}
 use Rattle.inc_graph.proofs.Walks.{chain-within}
 use Rattle.inc_graph.specs.Chains.{IsShortestOrNone}
-use Rattle.inc_report.specs.Told.{chain_found}
-use Rattle.inc_report.proofs.WhyLemmas.{chains-within}
+use Rattle.inc_answers.specs.Told.{chain_found}
+use Rattle.inc_answers.proofs.WhyLemmas.{chains-within}
 use Rattle.inc_report.proofs.named.why_lines.Goals as goal
 
 pub reached_document-requires-clause-shortest : goal.reached_document-requires-clause-shortest

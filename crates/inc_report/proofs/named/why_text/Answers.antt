@@ -1,4 +1,4 @@
-use Rattle.inc_report.proofs.WhyLemmas.{chains-within}
+use Rattle.inc_answers.proofs.WhyLemmas.{chains-within}
 use Rattle.inc_report.proofs.named.why_text.Goals as goal
 
 pub chains_dot-requires-clause-chains : goal.chains_dot-requires-clause-chains

@@ -1,7 +1,7 @@
 use Rattle.std.proofs.Common.{List, ℕ, arith, length, rules}
 use Rattle.std.specs.Option.{option_map_or}
 use Rattle.std.proofs.lemmas.List.FromFn.{map-range_with_len_more}
-use Rattle.inc_report.specs.KeptFiles.{kept_at}
+use Rattle.inc_answers.specs.KeptFiles.{kept_at}
 use Rattle.inc_report.proofs.named_costs.kept_sizes.Goals as goal
 
 pub loop-place-preserved : goal.loop-place-preserved

@@ -1,5 +1,5 @@
 use Rattle.std.proofs.Common.{◌≡◌}
-use Rattle.inc_report.specs.FileSizes.{kept_sizes}
+use Rattle.inc_answers.specs.FileSizes.{kept_sizes}
 use Rattle.inc_report.proofs.named_costs.kept_sizes.Given as goal
 
 -- those of the files so far

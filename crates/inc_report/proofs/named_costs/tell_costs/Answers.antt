@@ -1,6 +1,6 @@
 use Rattle.std.proofs.Common.{◌∙◌, List, ℕ, refl, subst}
-use Rattle.inc_report.specs.CostText.{IsRanked}
-use Rattle.inc_report.specs.CostViews.{seen_ranked}
+use Rattle.inc_answers.specs.CostText.{IsRanked}
+use Rattle.inc_answers.specs.CostViews.{seen_ranked}
 use Rattle.inc_report.proofs.NamedLemmas.{printed_same}
 use Rattle.inc_report.proofs.named_costs.tell_costs.Goals as goal
 

@@ -1,10 +1,10 @@
 use Rattle.std.proofs.Common.{◌≡◌, ◌∙◌, List, ℕ, [], ap, length, refl, subst}
 use Rattle.inc_cost.specs.Costs.{IsTotal}
 use Rattle.inc_cost.specs.declared.branches.Branch.{Branch}
-use Rattle.inc_report.specs.FileSizes.{kept_sizes}
-use Rattle.inc_report.specs.JsonAnswers.{about_subject}
+use Rattle.inc_answers.specs.FileSizes.{kept_sizes}
+use Rattle.inc_answers.specs.JsonAnswers.{about_subject}
 use Rattle.inc_report.specs.NamedText.{tree_answer}
-use Rattle.inc_report.specs.TreeText.{tree_branches}
+use Rattle.inc_answers.specs.TreeText.{tree_branches}
 use Rattle.inc_report.proofs.NamedLemmas.{printed_same}
 use Rattle.inc_report.proofs.named_costs.tell_trees.Goals as goal
 

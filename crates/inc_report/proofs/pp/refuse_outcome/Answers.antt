@@ -1,6 +1,6 @@
 use Rattle.std.proofs.Common.{refl}
-use Rattle.inc_report.specs.Refusals.{NoSuchSource, refusal}
-use Rattle.inc_report.proofs.WritingLemmas.{prints_all}
+use Rattle.inc_answers.specs.Refusals.{NoSuchSource, refusal}
+use Rattle.inc_answers.proofs.WritingLemmas.{prints_all}
 use Rattle.inc_report.proofs.pp.refuse_outcome.Goals as goal
 
 pub returns-in-NoSource-clause-sent : goal.returns-in-NoSource-clause-sent

@@ -1,7 +1,7 @@
 use Rattle.std.proofs.Common.{refl}
 use Rattle.inc_report.specs.PpText.{define_number}
-use Rattle.inc_report.specs.Refusals.{BadDefinition, refusal}
-use Rattle.inc_report.proofs.WritingLemmas.{prints_all}
+use Rattle.inc_answers.specs.Refusals.{BadDefinition, refusal}
+use Rattle.inc_answers.proofs.WritingLemmas.{prints_all}
 use Rattle.inc_report.proofs.pp.refuse_preprocessing.Goals as goal
 
 pub returns-in-BadDefinition-clause-sent : goal.returns-in-BadDefinition-clause-sent

@@ -1,13 +1,13 @@
 use Rattle.std.proofs.Common.{[], ap, ap₂, refl, ◌++◌, ◌∙◌}
 use Rattle.inc_report.specs.PpTexts.{if_wanted, refused_section, shown, title}
-use Rattle.inc_report.specs.Printed.{end_of, with_texts}
-use Rattle.inc_report.specs.Refusals.{refusal, refusal_text}
+use Rattle.inc_answers.specs.Printed.{end_of, with_texts}
+use Rattle.inc_answers.specs.Refusals.{refusal, refusal_text}
 use Rattle.inc_report.specs.SourceEndings.{ending_text}
-use Rattle.inc_report.specs.Views.{seen_refusal}
-use Rattle.inc_report.specs.declared.outcome.EndKind.TheVariants.{Refused}
+use Rattle.inc_answers.specs.Views.{seen_refusal}
+use Rattle.inc_answers.specs.declared.outcome.EndKind.TheVariants.{Refused}
 use Rattle.inc_report.proofs.PpLemmas.{unruled}
-use Rattle.inc_report.proofs.SendingLemmas.{sends_then}
-use Rattle.inc_report.proofs.WritingLemmas.{prints_one}
+use Rattle.inc_answers.proofs.SendingLemmas.{sends_then}
+use Rattle.inc_answers.proofs.WritingLemmas.{prints_one}
 use Rattle.inc_report.proofs.pp.refuse_source.Goals as goal
 
 pub returns-in-Ok-clause-sent : goal.returns-in-Ok-clause-sent

@@ -1,5 +1,5 @@
 use Rattle.inc_report.specs.PpSteps.{Common}
-use Rattle.inc_report.specs.Terms.{named_directives}
+use Rattle.inc_answers.specs.Terms.{named_directives}
 use Rattle.inc_report.proofs.PpSections.{wrote-none}
 use Rattle.inc_report.proofs.pp.run_pp.Goals as goal
 

@@ -1,13 +1,13 @@
 use Rattle.std.proofs.Common.{ℕ, List, [], Ok, ap, ap₂, ◌∙◌}
 use Rattle.inc_report.specs.NoOutcomes.{stop_end}
 use Rattle.inc_report.specs.PpTexts.{section_of, shown}
-use Rattle.inc_report.specs.Printed.{end_of, with_texts}
+use Rattle.inc_answers.specs.Printed.{end_of, with_texts}
 use Rattle.inc_report.specs.declared.pp.Wanted.{Wanted}
 use Rattle.inc_lookup.specs.Projects.{Layout}
 use Rattle.inc_pp.specs.Preprocessing.{Outcome}
-use Rattle.inc_report.specs.declared.outcome.End.{End}
+use Rattle.inc_answers.specs.declared.outcome.End.{End}
 use Rattle.inc_report.proofs.PpLemmas.{outcome_end, outcome_text}
-use Rattle.inc_report.proofs.SendingLemmas.{sends_then}
+use Rattle.inc_answers.proofs.SendingLemmas.{sends_then}
 use Rattle.inc_report.proofs.pp.send_outcome.Goals as goal
 
 -- what is told of an outcome

@@ -1,5 +1,5 @@
 use Rattle.std.proofs.Common.{refl}
-use Rattle.inc_report.proofs.WritingLemmas.{prints_all, prints_one}
+use Rattle.inc_answers.proofs.WritingLemmas.{prints_all, prints_one}
 use Rattle.inc_report.proofs.pp.send_source.Goals as goal
 
 pub returns-in-Ok-keep_texts-clause-sent : goal.returns-in-Ok-keep_texts-clause-sent

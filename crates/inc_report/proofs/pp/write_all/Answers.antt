@@ -1,6 +1,6 @@
 use Rattle.std.proofs.lemmas.Result.{err_from_is_err_and}
 use Rattle.inc_report.specs.PpSteps.{Common}
-use Rattle.inc_report.specs.Terms.{named_directives}
+use Rattle.inc_answers.specs.Terms.{named_directives}
 use Rattle.inc_report.proofs.PpSections.{wrote-none}
 use Rattle.inc_report.proofs.pp.write_all.Goals as goal
 

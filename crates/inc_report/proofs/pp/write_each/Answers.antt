@@ -1,8 +1,8 @@
 use Rattle.std.proofs.Common.{◌≡◌, ◌∙◌, ℕ, List, ap, ap₂, arith, map, drop, take, ◌+◌}
 use Rattle.std.proofs.lemmas.List.{take_all}
-use Rattle.inc_report.specs.PpTexts.{source_notes}
+use Rattle.inc_answers.specs.NearNames.{source_notes}
 use Rattle.inc_report.specs.PpViews.{common_of}
-use Rattle.inc_report.specs.Printed.{end_of, with_texts}
+use Rattle.inc_answers.specs.Printed.{end_of, with_texts}
 use Rattle.inc_report.proofs.PpSections.{front-at, parts-at, sound-after, unread-each, written-all, written-fault, written-more, written-none}
 use Rattle.inc_report.proofs.pp.write_each.Goals as goal
 

@@ -1,5 +1,5 @@
-use Rattle.inc_report.proofs.SendingLemmas.{stream_begun}
-use Rattle.inc_report.proofs.WritingLemmas.{sent_written}
+use Rattle.inc_answers.proofs.SendingLemmas.{stream_begun}
+use Rattle.inc_answers.proofs.WritingLemmas.{sent_written}
 use Rattle.inc_report.proofs.pp.write_source.Goals as goal
 
 pub returns-clause-written : goal.returns-clause-written

@@ -2,7 +2,7 @@ use Rattle.std.proofs.Common.{◌≡◌, ◌∙◌, Bool, true, false, ap, cond,
 use Rattle.std.specs.List.{list_any}
 use Rattle.inc_rules.specs.Judging.{is_broken}
 use Rattle.inc_rules.specs.Views.{seen_judged}
-use Rattle.inc_report.specs.declared.outcome.EndKind.TheVariants.{Answered, Negative}
+use Rattle.inc_answers.specs.declared.outcome.EndKind.TheVariants.{Answered, Negative}
 use Rattle.inc_report.proofs.BrokenRules.{any_seen}
 use Rattle.inc_report.proofs.rules.rules_kind.Goals as goal
 

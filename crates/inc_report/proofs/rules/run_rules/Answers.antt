@@ -1,7 +1,7 @@
 use Rattle.std.proofs.Common.{map, refl}
 use Rattle.inc_lookup.proofs.GivenLemmas.{given_all}
 use Rattle.inc_report.proofs.RulesKept.{rules_headline}
-use Rattle.inc_report.proofs.WritingLemmas.{finished, finished_fault, prints_all}
+use Rattle.inc_answers.proofs.WritingLemmas.{finished, finished_fault, prints_all}
 use Rattle.inc_rules.specs.Views.{seen_rule}
 use Rattle.inc_report.proofs.rules.run_rules.Goals as goal
 

@@ -1,5 +1,5 @@
 use Rattle.inc_report.proofs.BrokenRules.{all_chains}
-use Rattle.inc_report.proofs.SendingLemmas.{sends_then}
+use Rattle.inc_answers.proofs.SendingLemmas.{sends_then}
 use Rattle.inc_report.proofs.rules.send_chains.Goals as goal
 
 pub returns : goal.returns

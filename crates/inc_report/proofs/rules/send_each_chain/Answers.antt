@@ -2,9 +2,9 @@ use Rattle.std.proofs.Common.{◌∙◌, ◌<◌, List, [], ℕ, ap, arith, code
 use Rattle.std.specs.List.{All}
 use Rattle.std.proofs.lemmas.List.{get_or-map, length-map, take_all}
 use Rattle.inc_check.specs.Certificates.{marks_of}
-use Rattle.inc_report.specs.MarkTexts.{list_text}
-use Rattle.inc_report.proofs.SendingLemmas.{sends_then}
-use Rattle.inc_report.proofs.WhyLemmas.{flat_map-more}
+use Rattle.inc_answers.specs.MarkTexts.{list_text}
+use Rattle.inc_answers.proofs.SendingLemmas.{sends_then}
+use Rattle.inc_answers.proofs.WhyLemmas.{flat_map-more}
 use Rattle.inc_report.proofs.rules.send_each_chain.Goals as goal
 
 pub send_list-requires-clause-edges : goal.send_list-requires-clause-edges

@@ -1,8 +1,8 @@
 use Rattle.std.proofs.Common.{codes, take}
 use Rattle.std.specs.Prelude.{flat_map}
 use Rattle.inc_check.specs.Certificates.{marks_of}
-use Rattle.inc_report.specs.MarkTexts.{list_text}
-use Rattle.inc_report.specs.Sending.{Sends}
+use Rattle.inc_answers.specs.MarkTexts.{list_text}
+use Rattle.inc_answers.specs.Sending.{Sends}
 use Rattle.inc_report.proofs.rules.send_each_chain.Given as goal
 
 -- the chains so far are sent

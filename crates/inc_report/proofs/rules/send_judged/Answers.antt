@@ -1,8 +1,8 @@
 use Rattle.std.proofs.Common.{subst, sym}
 use Rattle.std.proofs.lemmas.List.{take_all}
 use Rattle.inc_report.specs.RulesText.{judged_text}
-use Rattle.inc_report.proofs.SendingLemmas.{sends_then}
-use Rattle.inc_report.proofs.WhyLemmas.{flat_map-more}
+use Rattle.inc_answers.proofs.SendingLemmas.{sends_then}
+use Rattle.inc_answers.proofs.WhyLemmas.{flat_map-more}
 use Rattle.inc_rules.specs.Judging.{IsWithin}
 use Rattle.inc_rules.specs.Views.{seen_judged}
 use Rattle.inc_report.proofs.rules.send_judged.Goals as goal

@@ -1,7 +1,7 @@
 use Rattle.std.proofs.Common.{take}
 use Rattle.std.specs.Prelude.{flat_map}
 use Rattle.inc_report.specs.RulesText.{judged_text}
-use Rattle.inc_report.specs.Sending.{Sends}
+use Rattle.inc_answers.specs.Sending.{Sends}
 use Rattle.inc_rules.specs.Views.{seen_judged}
 use Rattle.inc_report.proofs.rules.send_judged.Given as goal
 

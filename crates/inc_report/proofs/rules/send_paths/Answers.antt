@@ -1,8 +1,8 @@
 use Rattle.std.proofs.lemmas.List.{take_all}
 use Rattle.inc_check.specs.Texts.{line_text}
 use Rattle.inc_lookup.specs.Projects.{path_at}
-use Rattle.inc_report.proofs.SendingLemmas.{sends_then}
-use Rattle.inc_report.proofs.WhyLemmas.{flat_map-more}
+use Rattle.inc_answers.proofs.SendingLemmas.{sends_then}
+use Rattle.inc_answers.proofs.WhyLemmas.{flat_map-more}
 use Rattle.inc_report.proofs.rules.send_paths.Goals as goal
 
 pub loop-file-preserved : goal.loop-file-preserved

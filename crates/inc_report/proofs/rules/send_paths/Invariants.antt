@@ -2,7 +2,7 @@ use Rattle.std.proofs.Common.{take}
 use Rattle.std.specs.Prelude.{flat_map}
 use Rattle.inc_check.specs.Texts.{line_text}
 use Rattle.inc_lookup.specs.Projects.{path_at}
-use Rattle.inc_report.specs.Sending.{Sends}
+use Rattle.inc_answers.specs.Sending.{Sends}
 use Rattle.inc_report.proofs.rules.send_paths.Given as goal
 
 -- the paths so far are sent

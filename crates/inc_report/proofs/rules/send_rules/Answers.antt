@@ -1,7 +1,7 @@
 use Rattle.std.proofs.Common.{List, ℕ, length, refl, subst}
-use Rattle.inc_report.specs.Sending.{Sends}
+use Rattle.inc_answers.specs.Sending.{Sends}
 use Rattle.inc_report.proofs.BrokenRules.{all_judged}
-use Rattle.inc_report.proofs.SendingLemmas.{sends_then}
+use Rattle.inc_answers.proofs.SendingLemmas.{sends_then}
 use Rattle.inc_rules.specs.Views.{seen_judged}
 use Rattle.inc_report.proofs.rules.send_rules.Goals as goal
 

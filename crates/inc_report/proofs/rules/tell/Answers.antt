@@ -1,8 +1,8 @@
 use Rattle.std.proofs.Common.{map}
 use Rattle.inc_report.specs.RulesText.{IsRulesOf}
-use Rattle.inc_report.specs.Strictness.{Strict, strays_of}
-use Rattle.inc_report.proofs.QuestionLemmas.{of_graph, of_none}
-use Rattle.inc_report.proofs.WritingLemmas.{prints_all}
+use Rattle.inc_answers.specs.Strictness.{Strict, strays_of}
+use Rattle.inc_answers.proofs.QuestionLemmas.{of_graph, of_none}
+use Rattle.inc_answers.proofs.WritingLemmas.{prints_all}
 use Rattle.inc_rules.specs.Views.{seen_rule}
 use Rattle.inc_report.proofs.rules.tell.Goals as goal
 

@@ -1,8 +1,8 @@
 use Rattle.std.proofs.Common.{◌∙◌, [], ap, map, refl, subst, sym}
 use Rattle.std.specs.List.{All}
-use Rattle.inc_report.specs.Printed.{end_of}
+use Rattle.inc_answers.specs.Printed.{end_of}
 use Rattle.inc_report.specs.RulesText.{rules_kind, rules_printed, rules_text}
-use Rattle.inc_report.specs.Sending.{Sends}
+use Rattle.inc_answers.specs.Sending.{Sends}
 use Rattle.inc_rules.specs.Judging.{IsWithin}
 use Rattle.inc_rules.specs.Views.{seen_judged}
 use Rattle.inc_report.proofs.rules.tell_graph.Goals as goal

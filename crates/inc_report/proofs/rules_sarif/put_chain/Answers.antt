@@ -1,7 +1,7 @@
 use Rattle.std.proofs.Common.{◌∙◌, ℕ, List, ap}
-use Rattle.inc_report.specs.RuleViews.{seen_listed}
+use Rattle.inc_report.specs.SarifViews.{seen_listed}
 use Rattle.inc_report.specs.RulesSarif.{chain_words, message_text}
-use Rattle.inc_report.proofs.NoteLemmas.{joined}
+use Rattle.inc_answers.proofs.NoteLemmas.{joined}
 use Rattle.inc_report.proofs.SarifLemmas.{joined_on}
 use Rattle.inc_report.proofs.rules_sarif.put_chain.Goals as goal
 

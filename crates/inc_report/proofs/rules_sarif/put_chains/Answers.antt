@@ -1,8 +1,8 @@
 use Rattle.std.proofs.Common.{◌++◌, codes}
-use Rattle.inc_report.specs.RuleViews.{seen_listed}
+use Rattle.inc_report.specs.SarifViews.{seen_listed}
 use Rattle.inc_report.specs.RulesSarif.{chain_result}
-use Rattle.inc_report.proofs.NoteLemmas.{joined}
-use Rattle.inc_report.proofs.WhyLemmas.{flat_map-more}
+use Rattle.inc_answers.proofs.NoteLemmas.{joined}
+use Rattle.inc_answers.proofs.WhyLemmas.{flat_map-more}
 use Rattle.inc_report.proofs.rules_sarif.put_chains.Goals as goal
 
 pub loop-chain-preserved : goal.loop-chain-preserved

@@ -1,6 +1,6 @@
 use Rattle.std.proofs.Common.{◌≡◌, ◌++◌, codes, take}
 use Rattle.std.specs.Prelude.{flat_map}
-use Rattle.inc_report.specs.RuleViews.{seen_listed}
+use Rattle.inc_report.specs.SarifViews.{seen_listed}
 use Rattle.inc_report.specs.RulesSarif.{chain_result}
 use Rattle.inc_report.proofs.rules_sarif.put_chains.Given as goal
 

@@ -1,8 +1,8 @@
 use Rattle.std.proofs.Common.{◌∙◌, ℕ, List, ap}
 use Rattle.inc_lookup.specs.Projects.{path_at}
-use Rattle.inc_report.specs.RuleViews.{seen_listed}
+use Rattle.inc_report.specs.SarifViews.{seen_listed}
 use Rattle.inc_report.specs.RulesSarif.{file_place, file_words, message_text}
-use Rattle.inc_report.proofs.NoteLemmas.{joined, joined_as}
+use Rattle.inc_answers.proofs.NoteLemmas.{joined, joined_as}
 use Rattle.inc_report.proofs.SarifLemmas.{joined_on}
 use Rattle.inc_report.proofs.rules_sarif.put_file.Goals as goal
 

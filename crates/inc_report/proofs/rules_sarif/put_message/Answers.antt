@@ -1,4 +1,4 @@
-use Rattle.inc_report.proofs.NoteLemmas.{joined}
+use Rattle.inc_answers.proofs.NoteLemmas.{joined}
 use Rattle.inc_report.proofs.rules_sarif.put_message.Goals as goal
 
 pub returns : goal.returns

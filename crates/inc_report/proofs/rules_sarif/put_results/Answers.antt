@@ -1,8 +1,8 @@
 use Rattle.std.proofs.Common.{◌≡◌, ◌∙◌, ◌++◌, ℕ, List, ap, codes, drop, map}
 use Rattle.inc_report.specs.RulesSarif.{results_from}
-use Rattle.inc_report.proofs.NoteLemmas.{joined, joined_as}
+use Rattle.inc_answers.proofs.NoteLemmas.{joined, joined_as}
 use Rattle.inc_report.proofs.SarifLemmas.{items_behind}
-use Rattle.inc_report.specs.JsonTexts.{items_text}
+use Rattle.inc_answers.specs.JsonTexts.{items_text}
 use Rattle.inc_report.proofs.rules_sarif.put_results.Goals as goal
 use Rattle.inc_rules.specs.Views.{seen_judged}
 

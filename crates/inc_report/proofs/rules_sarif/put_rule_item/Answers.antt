@@ -1,7 +1,7 @@
 use Rattle.std.proofs.Common.{◌∙◌, ◌++◌, ℕ, List, ap}
-use Rattle.inc_report.specs.JsonTexts.{string_text}
+use Rattle.inc_answers.specs.JsonTexts.{string_text}
 use Rattle.inc_report.specs.RulesSarif.{rule_words}
-use Rattle.inc_report.proofs.NoteLemmas.{joined, joined_as}
+use Rattle.inc_answers.proofs.NoteLemmas.{joined, joined_as}
 use Rattle.inc_rules.specs.Views.{seen_rule}
 use Rattle.inc_report.proofs.rules_sarif.put_rule_item.Goals as goal
 

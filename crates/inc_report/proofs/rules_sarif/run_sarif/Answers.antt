@@ -1,8 +1,8 @@
 use Rattle.std.proofs.Common.{refl}
 use Rattle.inc_lookup.proofs.GivenLemmas.{given_all}
-use Rattle.inc_report.specs.RuleViews.{seen_list}
+use Rattle.inc_answers.specs.RuleViews.{seen_list}
 use Rattle.inc_report.proofs.RulesKept.{sarif_headline}
-use Rattle.inc_report.proofs.WritingLemmas.{finished, finished_fault, prints_all}
+use Rattle.inc_answers.proofs.WritingLemmas.{finished, finished_fault, prints_all}
 use Rattle.inc_report.proofs.rules_sarif.run_sarif.Goals as goal
 
 pub returns-clause-written : goal.returns-clause-written

@@ -1,5 +1,5 @@
 use Rattle.std.proofs.Common.{◌∙◌, ◌++◌, ℕ, List, [], ap, codes}
-use Rattle.inc_report.proofs.NoteLemmas.{joined, joined_as}
+use Rattle.inc_answers.proofs.NoteLemmas.{joined, joined_as}
 use Rattle.inc_report.proofs.SarifLemmas.{rules_seen}
 use Rattle.inc_report.proofs.rules_sarif.sarif_text.Goals as goal
 

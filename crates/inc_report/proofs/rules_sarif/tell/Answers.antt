@@ -1,8 +1,8 @@
-use Rattle.inc_report.specs.RuleViews.{seen_list}
+use Rattle.inc_answers.specs.RuleViews.{seen_list}
 use Rattle.inc_report.specs.RulesSarif.{IsSarifOf}
-use Rattle.inc_report.specs.Strictness.{Strict, strays_of}
-use Rattle.inc_report.proofs.QuestionLemmas.{of_graph, of_none}
-use Rattle.inc_report.proofs.WritingLemmas.{prints_all}
+use Rattle.inc_answers.specs.Strictness.{Strict, strays_of}
+use Rattle.inc_answers.proofs.QuestionLemmas.{of_graph, of_none}
+use Rattle.inc_answers.proofs.WritingLemmas.{prints_all}
 use Rattle.inc_report.proofs.rules_sarif.tell.Goals as goal
 
 pub returns-in-Ok-clause-sent : goal.returns-in-Ok-clause-sent

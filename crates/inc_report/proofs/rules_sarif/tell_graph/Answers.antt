@@ -1,4 +1,4 @@
-use Rattle.inc_report.proofs.WritingLemmas.{prints_one}
+use Rattle.inc_answers.proofs.WritingLemmas.{prints_one}
 use Rattle.inc_report.proofs.rules_sarif.tell_graph.Goals as goal
 
 pub returns-clause-sent : goal.returns-clause-sent

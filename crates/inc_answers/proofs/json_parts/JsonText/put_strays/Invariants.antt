@@ -1,0 +1,8 @@
+use Rattle.std.proofs.Common.{drop}
+use Rattle.inc_answers.specs.JsonAnswers.{stray_text}
+use Rattle.inc_answers.proofs.JsonSteps.{Makes, with_items}
+use Rattle.inc_answers.proofs.json_parts.JsonText.put_strays.Given as goal
+
+-- the directives that are left make the list
+abbrev pub invariant-loop-place : goal.invariant-loop-place
+invariant-loop-place l = Makes stray_text l.self l.place (drop l.place l.strays) (with_items stray_text l.initial.self l.strays)

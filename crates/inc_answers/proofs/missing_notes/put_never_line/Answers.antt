@@ -1,0 +1,12 @@
+use Rattle.std.proofs.Common.{[], ◌∷◌, ◌++◌, codes}
+use Rattle.inc_answers.specs.MissingNotes.{note_start}
+use Rattle.inc_answers.proofs.NoteLemmas.{joined}
+use Rattle.inc_answers.proofs.missing_notes.put_never_line.Goals as goal
+
+pub returns : goal.returns
+returns c =
+    joined c.args.text.now.items (note_start ++ codes "not reached under any configuration") (10 ∷ []) (c.extend_from_slice-2.new.self.items) (c.push.new.self.items)
+    (joined c.args.text.now.items note_start (codes "not reached under any configuration") (c.extend_from_slice.new.self.items) (c.extend_from_slice-2.new.self.items)
+    (c.in_ok-extend_from_slice.ensures.items)
+    c.in_ok-extend_from_slice-2.ensures.items)
+    c.in_ok-push.ensures.items

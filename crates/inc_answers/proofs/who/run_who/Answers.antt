@@ -1,0 +1,12 @@
+use Rattle.std.proofs.Common.{refl}
+use Rattle.inc_answers.proofs.WritingLemmas.{finished, finished_fault}
+use Rattle.inc_answers.proofs.who.run_who.Goals as goal
+
+pub returns-clause-written : goal.returns-clause-written
+returns-clause-written g c = finished _ _ _ _ _ _ _ _ _ c.requires c.in-Ok.ensures.output c.tell-ended.ensures.sent c.finish.ensures
+
+pub returns-clause-unread : goal.returns-clause-unread
+returns-clause-unread g c = finished_fault _ _ _ _ _ _ c.finish.ensures tt c.tell-ended.ensures.unread
+
+pub returns-clause-certificate : goal.returns-clause-certificate
+returns-clause-certificate g c = finished_fault _ _ _ _ _ _ c.finish.ensures refl c.tell-ended.ensures.certificate

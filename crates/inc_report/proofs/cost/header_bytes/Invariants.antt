@@ -1,8 +1,0 @@
-use Rattle.std.proofs.Common.{◌≡◌, map}
-use Rattle.std.specs.List.{range_with_len}
-use Rattle.inc_report.specs.CostText.{header_bytes_at}
-use Rattle.inc_report.proofs.cost.header_bytes.Given as goal
-
--- what the files so far bring
-abbrev pub invariant-loop-place : goal.invariant-loop-place
-invariant-loop-place l = l.found.items ≡ map (header_bytes_at l.graph l.bytes) (range_with_len 0 l.place)

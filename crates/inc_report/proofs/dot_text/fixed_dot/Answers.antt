@@ -1,8 +1,0 @@
-use Rattle.std.proofs.Common.{◌++◌, None, Some, []}
-use Rattle.inc_report.proofs.DotLemmas.{drawn_as, flags_empty}
-use Rattle.inc_report.proofs.dot_text.fixed_dot.Goals as goal
-
-pub returns : goal.returns
-returns c =
-    drawn_as c.dot_text.result c.args.subject.project.now c.args.subject.graph.now c.deref.result.now [] c.args.chain.now [] (Some c.args.fixed.now)
-    (rw c.deref.ensures.value c.in_ok-edges.ensures) flags_empty c.dot_text.ensures

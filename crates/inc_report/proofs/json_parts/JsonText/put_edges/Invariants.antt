@@ -1,8 +1,0 @@
-use Rattle.std.proofs.Common.{drop}
-use Rattle.inc_report.specs.JsonAnswers.{numbered_text}
-use Rattle.inc_report.proofs.JsonSteps.{Makes, with_items}
-use Rattle.inc_report.proofs.json_parts.JsonText.put_edges.Given as goal
-
--- the directives that are left make the list
-abbrev pub invariant-loop-place : goal.invariant-loop-place
-invariant-loop-place l = Makes numbered_text l.self l.place (drop l.place l.edges) (with_items numbered_text l.initial.self l.edges)

@@ -1,7 +1,0 @@
-use Rattle.std.proofs.Common.{◌≡◌, None}
-use Rattle.std.specs.Prelude.{replicate}
-use Rattle.inc_report.proofs.kept_sources.KeptFiles.unread.Given as goal
-
--- so many files are not read
-abbrev pub invariant-loop : goal.invariant-loop
-invariant-loop l = l.files.items ≡ replicate l.counter None

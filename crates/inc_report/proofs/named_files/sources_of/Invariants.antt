@@ -1,7 +1,0 @@
-use Rattle.std.proofs.Common.{◌≡◌, take}
-use Rattle.inc_report.specs.NamedFiles.{sources_of}
-use Rattle.inc_report.proofs.named_files.sources_of.Given as goal
-
--- those so far
-abbrev pub invariant-loop-file : goal.invariant-loop-file
-invariant-loop-file l = l.sources.items ≡ sources_of l.question (take l.file-index l.files)

@@ -1,8 +1,0 @@
-use Rattle.std.proofs.Common.{◌≡◌, length, map, take}
-use Rattle.inc_report.specs.RulesDocument.{all_chains}
-use Rattle.inc_rules.specs.Views.{seen_judged}
-use Rattle.inc_report.proofs.rules_document.chain_count.Given as goal
-
--- those of the rules so far
-abbrev pub invariant-loop-rule : goal.invariant-loop-rule
-invariant-loop-rule l = l.count ≡ length (all_chains (map seen_judged (take l.rule-index l.judged)))

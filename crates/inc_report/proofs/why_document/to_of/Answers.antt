@@ -1,5 +1,0 @@
-use Rattle.inc_report.proofs.EdgeEnds.{to_is}
-use Rattle.inc_report.proofs.why_document.to_of.Goals as goal
-
-pub returns : goal.returns
-returns c = to_is c.args.graph.now c.args.edge c.edge_at.result c.requires c.edge_at.ensures.found
